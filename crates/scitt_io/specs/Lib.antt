@@ -1,0 +1,7 @@
+pub mod Causes
+pub mod Plan
+pub mod Source
+pub mod Sink
+pub mod Files
+pub mod Memory
+pub mod Shelf

@@ -1,0 +1,24 @@
+-- What the memory forms are seen as.
+use Rattle.std.specs.Prelude.{ℕ, List}
+use Rattle.scitt_io.specs.declared.plan.Plan.{Plan}
+
+-- a source: the bytes that are left, and its failing calls
+pub record Input : Type 0 where
+  pub left : List ℕ
+  pub plan : Plan
+
+-- a sink: the bytes that were written, and its failing calls
+pub record Output : Type 0 where
+  pub taken : List ℕ
+  pub plan : Plan
+
+-- a folder: its files by name, the bytes that are left of the chosen one, and its failing calls
+pub record Files : Type 0 where
+  pub files : List (List ℕ × List ℕ)
+  pub left : List ℕ
+  pub plan : Plan
+
+-- a folder that never fails: its files by name, and the bytes that are left of the chosen one
+pub record SureFiles : Type 0 where
+  pub files : List (List ℕ × List ℕ)
+  pub left : List ℕ

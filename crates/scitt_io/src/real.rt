@@ -1,0 +1,137 @@
+// The trusted edge: real files and streams. They tell nothing, and count what the system refuses.
+ghost use Rattle.std.specs.Prelude.{◌≡◌, ℕ, List, None};
+ghost use Rattle.std.specs.declared.option.Option.{Option};
+ghost use Rattle.std.specs.Io.{ReadsAtMost};
+
+use crate::folder::Folder;
+use crate::sink::{Sink, WriteFault};
+use crate::source::{ReadFault, Source};
+use std::io::{ErrorKind, Input, Print, Read};
+use std::rt::Files;
+use std::{fs, io};
+
+/// How often a read that a signal interrupts is tried before it counts as a fault.
+const TRIES: u32 = 16;
+
+#[derive(Drop)]
+enum Chosen<R: Files + Input> {
+    Nothing,
+    Input(R::Reader),
+    File(R::File),
+}
+
+/// The files of the system by their paths. The name `-` is standard input.
+#[derive(Drop)]
+pub struct FileFolder<R: Files + Input + Drop> {
+    system: R,
+    chosen: Chosen<R>,
+    faults: u64,
+}
+
+impl<R: Files + Input + Drop> FileFolder<R> {
+    pub fn new(system: R) -> Self {
+        FileFolder {
+            system,
+            chosen: Chosen::Nothing,
+            faults: 0,
+        }
+    }
+}
+
+impl<R: Files + Input + Drop> Source for FileFolder<R> {
+    ghost left = { λ _. None };
+
+    ghost faults = { λ f. f.faults };
+
+    ghost read_keeps = { λ _ _. Unit {0} };
+
+    ghost read_keeps_self = { λ _. tt };
+
+    ghost read_keeps_then = { λ _ _ _ _ _. tt };
+
+    fn read(&mut self, buf: &mut [u8]) -> Result<usize, ReadFault> {
+        let answer = match &mut self.chosen {
+            Chosen::Nothing => Ok(0),
+            Chosen::Input(input) => read_retrying(input, buf),
+            Chosen::File(file) => read_retrying(file, buf),
+        };
+        let Ok(count) = answer else {
+            self.faults = self.faults.saturating_add(1);
+            return Err(ReadFault);
+        };
+        Ok(count)
+    }
+}
+
+impl<R: Files + Input + Drop> Folder for FileFolder<R> {
+    ghost files = { λ _. None };
+
+    ghost use Rattle.std.proofs.Common.{refl};
+
+    ghost files_kept = { λ _ _ _. refl };
+
+    fn choose(&mut self, name: &str) -> Result<(), ReadFault> {
+        if name == "-" {
+            self.chosen = Chosen::Input(self.system.reader());
+            return Ok(());
+        }
+        let Ok(file) = fs::open(&self.system, name) else {
+            self.faults = self.faults.saturating_add(1);
+            return Err(ReadFault);
+        };
+        self.chosen = Chosen::File(file);
+        Ok(())
+    }
+}
+
+fn read_retrying<T: Read>(reader: &mut T, buf: &mut [u8]) -> io::Result<usize>
+    ensures { ReadsAtMost result buf.new }
+{
+    for _ in 0..TRIES {
+        match reader.read(buf) {
+            Err(e) if e.kind() == ErrorKind::Interrupted => {}
+            answer => return answer,
+        }
+    }
+    Err(io::Error::from(ErrorKind::Interrupted))
+}
+
+/// Standard output.
+#[derive(Drop)]
+pub struct StdSink<P: Print + Drop> {
+    out: P,
+    faults: u64,
+}
+
+impl<P: Print + Drop> StdSink<P> {
+    pub fn new(out: P) -> Self {
+        StdSink { out, faults: 0 }
+    }
+}
+
+impl<P: Print + Drop> Sink for StdSink<P> {
+    ghost taken = { λ _. None };
+
+    ghost refused = { λ s. s.faults };
+
+    ghost write_keeps = { λ _ _. Unit {0} };
+
+    ghost write_keeps_self = { λ _. tt };
+
+    ghost write_keeps_then = { λ _ _ _ _ _. tt };
+
+    fn write(&mut self, bytes: &[u8]) -> Result<usize, WriteFault> {
+        if bytes.is_empty() {
+            return Ok(0);
+        }
+        for _ in 0..TRIES {
+            match self.out.write_some(bytes) {
+                Err(e) if e.kind() == ErrorKind::Interrupted => {}
+                Err(_) | Ok(0) => break,
+                Ok(count) => return Ok(count),
+            }
+        }
+        self.faults = self.faults.saturating_add(1);
+        Err(WriteFault)
+    }
+}

@@ -1,0 +1,128 @@
+ghost use Rattle.std.specs.Prelude.{◌≡◌, ◌≢◌, ℕ, ◌+◌, ◌-◌, ◌≤◌, ◌<◌, min, length, List, IfOk, IfErr, IfSome, OnOk, OnErr, is_some, IsErrOf};
+ghost use Rattle.std.specs.declared.option.Option.{Option};
+ghost use Rattle.std.specs.Io.{ReadsAtMost};
+ghost use Rattle.std.specs.Io.KnownBytes.{ReadConsumes, IsAtEnd};
+ghost use Rattle.scitt_io.specs.Causes.{HasCause, Rose};
+ghost use Rattle.scitt_io.specs.Source.{TakesAll};
+ghost use Rattle.scitt_io.specs.declared.source.ReadStop.TheVariants.{OutOfMemory};
+ghost use Rattle.scitt_io.specs.declared.source.ReadStop.TheVariants.{ReadFault as FaultStop};
+
+use std::alloc::{AllocError, Global};
+use std::error::Error;
+use std::fmt;
+
+/// A read that the outside refused. The source has counted it.
+#[derive(Clone, Copy, Debug, PartialEq, Eq)]
+pub struct ReadFault;
+
+impl fmt::Display for ReadFault {
+    fn fmt<W: fmt::Write>(&self, f: &mut fmt::Formatter<W>) -> fmt::Result {
+        f.write_str("read fault")
+    }
+}
+
+impl Error for ReadFault {}
+
+/// Bytes that come in from outside, once and in order.
+pub trait Source {
+    // what is left to read, where the source tells it
+    ghost left: { Self → Option (List ℕ) };
+
+    // how many reads were refused so far
+    ghost faults: { Self → ℕ };
+
+    // what reads leave as it was: everything but what is left and the count
+    ghost read_keeps: { Self → Self → Type 0 };
+
+    /// Reads some of the next bytes into the front of `buf`, and says how many: 0 only at the end of
+    /// the input, or where `buf` has no room. A fault leaves what is left as it was.
+    fn read(&mut self, buf: &mut [u8]) -> Result<usize, ReadFault>
+        ensures bound { ReadsAtMost result buf.new }
+        ensures bytes { ReadConsumes (left self.old) (left self.new) result buf.new }
+        ensures telling { is_some (left self.new) ≡ is_some (left self.old) }
+        ensures cause { HasCause (faults self.old) (faults self.new) result }
+        ensures keeps { read_keeps self.old self.new };
+
+    ghost read_keeps_self: { (a : Self) → read_keeps a a };
+
+    ghost read_keeps_then: { (a b c : Self) → read_keeps a b → read_keeps b c → read_keeps a c };
+}
+
+/// Why a source wasn't read to its end.
+#[derive(Clone, Copy, Debug, PartialEq, Eq)]
+pub enum ReadStop {
+    /// More than the limit was left.
+    TooLong,
+    /// The source refused a read.
+    ReadFault,
+    OutOfMemory,
+}
+
+impl fmt::Display for ReadStop {
+    fn fmt<W: fmt::Write>(&self, f: &mut fmt::Formatter<W>) -> fmt::Result {
+        f.write_str(match self {
+            ReadStop::TooLong => "too long",
+            ReadStop::ReadFault => "read fault",
+            ReadStop::OutOfMemory => "out of memory",
+        })
+    }
+}
+
+impl Error for ReadStop {}
+
+impl From<ReadFault> for ReadStop {
+    ghost from_gives = { λ _ stop. stop ≡ FaultStop };
+
+    fn from(_fault: ReadFault) -> ReadStop {
+        ReadStop::ReadFault
+    }
+}
+
+impl From<AllocError> for ReadStop {
+    ghost from_gives = { λ _ stop. stop ≡ OutOfMemory };
+
+    fn from(_error: AllocError) -> ReadStop {
+        ReadStop::OutOfMemory
+    }
+}
+
+/// How many bytes one read asks for.
+const PIECE: usize = 16384;
+
+/// All bytes that are left in `source`, at most `limit` of them. It stops at the first byte past the
+/// limit, which it has then taken.
+pub fn read_to_end<S: Source>(
+    alloc: Global,
+    source: &mut S,
+    limit: u64,
+) -> Result<Vec<u8>, ReadStop>
+    ensures takes { TakesAll limit (S.left source.old) (S.left source.new) result }
+    ensures end { OnOk result (IsAtEnd (S.left source.new)) }
+    ensures all { IfOk result (λ bytes. IfSome (S.left source.old) (λ left. bytes.items ≡ left)) }
+    ensures telling { is_some (S.left source.new) ≡ is_some (S.left source.old) }
+    ensures fault { IsErrOf result ReadStop.ReadFault → Rose (S.faults source.old) (S.faults source.new) }
+    ensures no_fault { (IsErrOf result ReadStop.ReadFault → ⊥) → S.faults source.new ≡ S.faults source.old }
+    ensures later { S.faults source.old ≤ S.faults source.new }
+    ensures keeps { S.read_keeps source.old source.new }
+{
+    let mut bytes = Vec::new(alloc);
+    let mut piece = [0u8; PIECE];
+    loop {
+        let room = limit - bytes.len() as u64;
+        let count = source.read(&mut piece[..asked(room)])?;
+        if count == 0 {
+            return Ok(bytes);
+        }
+        if count as u64 > room {
+            return Err(ReadStop::TooLong);
+        }
+        bytes.extend_from_slice(&piece[..count])?;
+    }
+}
+
+/// One byte more than there is room for, so that too long an input shows, but at most one piece.
+fn asked(room: u64) -> usize
+    ensures { result ≡ min (room + 1) 16384 }
+{
+    room.saturating_add(1).min(PIECE as u64) as usize
+}
