@@ -1,0 +1,4 @@
+pub mod Frontier
+pub mod Levels
+pub mod Mth
+pub mod Pushed
