@@ -1,0 +1,12 @@
+pub mod RowLemmas
+pub mod OrderLemmas
+pub mod SameLemmas
+pub mod ReadLoops
+pub mod StepLemmas
+pub mod HeadLemmas
+pub mod PartLemmas
+pub mod PairLemmas
+pub mod LevelLemmas
+pub mod LevelReads
+pub mod ReadLaws
+pub mod DecodeLaws

@@ -1,0 +1,77 @@
+-- What decoding answers, and the laws of the two grammars.
+use Rattle.std.specs.Prelude.{◌≡◌, ℕ, ◌<◌, ◌≤◌, ◌⊎◌, List, [], ◌∷◌, ◌++◌, length, take, Option, Some, None, Result, Ok, Err}
+use Rattle.cbor_core.specs.declared.words.Grammar.{Grammar}
+use Rattle.cbor_core.specs.declared.words.Grammar.TheVariants.{Strict, Wide}
+use Rattle.cbor_core.specs.declared.words.Why.{Why}
+use Rattle.cbor_core.specs.declared.words.Why.TheVariants.{Trailing}
+use Rattle.cbor_core.specs.declared.words.Fault.{Fault}
+use Rattle.cbor_core.specs.declared.words.DecodeStop.{DecodeStop}
+use Rattle.cbor_core.specs.declared.words.DecodeStop.TheVariants.{Fault as AtFault, OutOfMemory}
+use Rattle.cbor_core.specs.declared.heads.Stop.{Stop}
+use Rattle.cbor_core.specs.declared.tree.Item.{Item}
+use Rattle.cbor_core.specs.Bytes.{IsBytes}
+use Rattle.cbor_core.specs.Spells.{Spells}
+use Rattle.cbor_core.specs.Faults.{FaultIn}
+use Rattle.cbor_core.specs.Reading.{read_in}
+
+-- a decoder's answer: the item that the first n bytes spell, or exactly the first fault, unless memory ran out
+abbrev pub Decoded : Grammar → List ℕ → Result (Item × ℕ) DecodeStop → Type 0
+Decoded g bytes (Ok found) = (found.1 ≤ length bytes) × Spells g found.0 (take found.1 bytes)
+Decoded g bytes (Err (AtFault fault)) = FaultIn g 0 bytes fault.at fault.why
+Decoded g bytes (Err OutOfMemory) = Unit {0}
+
+-- the fault is that bytes follow the item
+abbrev pub Trails : Grammar → List ℕ → Fault → Type 0
+Trails g bytes fault = (fault.why ≡ Trailing) × (fault.at < length bytes) × ((item : Item) × Spells g item (take fault.at bytes))
+
+-- the same of a decoder that demands that nothing follows
+abbrev pub DecodedAll : Grammar → List ℕ → Result Item DecodeStop → Type 0
+DecodedAll g bytes (Ok item) = Spells g item bytes
+DecodedAll g bytes (Err (AtFault fault)) = FaultIn g 0 bytes fault.at fault.why ⊎ Trails g bytes fault
+DecodedAll g bytes (Err OutOfMemory) = Unit {0}
+
+-- some prefix of the bytes is spelled
+abbrev pub HasPrefix : Grammar → List ℕ → Type 0
+HasPrefix g bytes = (item : Item) × (n : ℕ) × (n ≤ length bytes) × Spells g item (take n bytes)
+
+-- the bytes have a first fault
+abbrev pub HasFault : Grammar → List ℕ → Type 0
+HasFault g bytes = (at : ℕ) × (why : Why) × FaultIn g 0 bytes at why
+
+-- no spelling is a proper prefix of another, and equal texts spell equal items
+abbrev pub PrefixFree : Type 0
+PrefixFree = (g : Grammar) (a b : Item) (s t x y : List ℕ) → Spells g a s → Spells g b t → s ++ x ≡ t ++ y → (a ≡ b) × (s ≡ t)
+
+-- an item has one strict spelling
+abbrev pub OneStrictSpelling : Type 0
+OneStrictSpelling = (item : Item) (s t : List ℕ) → Spells Strict item s → Spells Strict item t → s ≡ t
+
+-- bytes have a prefix that is spelled, or a fault
+abbrev pub PrefixOrFault : Type 0
+PrefixOrFault = (g : Grammar) (bytes : List ℕ) → IsBytes bytes → HasPrefix g bytes ⊎ HasFault g bytes
+
+-- and never both
+abbrev pub NotBoth : Type 0
+NotBoth = (g : Grammar) (bytes : List ℕ) → HasPrefix g bytes → HasFault g bytes → ⊥
+
+-- and no two faults
+abbrev pub OneFault : Type 0
+OneFault = (g : Grammar) (bytes : List ℕ) (at other_at : ℕ) (why other_why : Why) → FaultIn g 0 bytes at why → FaultIn g 0 bytes other_at other_why → (at ≡ other_at) × (why ≡ other_why)
+
+-- what was read and left nothing
+abbrev pub whole : Result (Item × List ℕ) Stop → Option Item
+whole (Ok (item, [])) = Some item
+whole (Ok (item, b ∷ rest)) = None
+whole (Err stop) = None
+
+-- the item that the bytes strictly spell, if they spell one
+unfoldable pub strict_item : List ℕ → Option Item
+strict_item bytes = whole (read_in Strict 16 bytes)
+
+-- what it gives is spelled so
+abbrev pub ItemIsSpelled : Type 0
+ItemIsSpelled = (bytes : List ℕ) (item : Item) → IsBytes bytes → strict_item bytes ≡ Some item → Spells Strict item bytes
+
+-- what is spelled it gives
+abbrev pub SpelledIsItem : Type 0
+SpelledIsItem = (bytes : List ℕ) (item : Item) → Spells Strict item bytes → strict_item bytes ≡ Some item
