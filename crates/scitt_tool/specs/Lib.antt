@@ -1,0 +1,9 @@
+pub mod Command
+pub mod Meaning
+pub mod Answer
+pub mod Text
+pub mod Reads
+pub mod FaultText
+pub mod Root
+pub mod ToolText
+pub mod Run

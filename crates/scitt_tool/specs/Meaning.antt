@@ -1,0 +1,7 @@
+-- What the code's commands mean.
+use Rattle.scitt_tool.specs.declared.command.Command.{Command as Read}
+use Rattle.scitt_tool.specs.declared.command.Command.TheVariants.{Root as ReadRoot}
+use Rattle.scitt_tool.specs.Command.{Command, Root}
+
+abbrev pub meaning : Read → Command
+meaning (ReadRoot file) = Root file.now

@@ -1,0 +1,30 @@
+-- A run of the tool: what it was to answer, and what it wrote.
+use Rattle.std.specs.Prelude.{◌≡◌, ◌⊎◌, ◌≤◌, ℕ, List, length, Some}
+use Rattle.std.specs.declared.option.Option.{Option}
+use Rattle.std.specs.Io.KnownBytes.{Appends}
+use Rattle.scitt_io.specs.Causes.{Rose}
+use Rattle.scitt_tool.specs.Answer.{Answer, Says, unread}
+use Rattle.scitt_tool.specs.Command.{Root, command_of}
+use Rattle.scitt_tool.specs.Reads.{FileOf, Tells, told_file, limit}
+use Rattle.scitt_tool.specs.Root.{RootOf}
+use Rattle.scitt_tool.specs.ToolText.{ToolText}
+
+-- what there is to answer: what words and files call for, or a read fault, where the folder's count rose
+abbrev pub IsDue : List (List ℕ) → FileOf → ℕ → ℕ → Answer → Type 0
+IsDue words file_of before now answer = ToolText words file_of answer ⊎ ((answer ≡ unread) × Rose before now)
+
+-- The words, the folder's files and its count before and after, what was written and the sink's count before and after, and
+-- the status: what there was to answer, over the told files, was said.
+pub record Answers (words : List (List ℕ)) (told : Option FileOf) (files_before files_now : ℕ) (old new : Option (List ℕ)) (out_before out_now : ℕ) (status : ℕ) : Type 0 where
+  pub file_of : FileOf
+  pub files : Tells told file_of
+  pub answer : Answer
+  pub due : IsDue words file_of files_before files_now answer
+  pub says : Says answer old new out_before out_now status
+
+-- `root` of a told file within the limit, where no count rises: the status and the text are by its bytes alone, unless memory is wanting.
+abbrev pub RootCompletes : List (List ℕ) → Option FileOf → ℕ → ℕ → Option (List ℕ) → Option (List ℕ) → ℕ → ℕ → ℕ → Type 0
+RootCompletes words told files_before files_now old new out_before out_now status =
+    (file bytes : List ℕ) → command_of words ≡ Some (Root file) → told_file told file ≡ Some bytes → length bytes ≤ limit
+    → ¬ Rose files_before files_now → ¬ Rose out_before out_now
+    → (status ≡ 5) ⊎ ((answer : Answer) × RootOf bytes answer × (status ≡ answer.status) × Appends old new answer.text)

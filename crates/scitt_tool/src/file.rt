@@ -1,0 +1,26 @@
+ghost use Rattle.std.specs.Prelude.{◌≡◌, ◌≤◌, ℕ, List, IsErrOf, OnOk};
+ghost use Rattle.std.specs.Io.KnownBytes.{IsAtEnd};
+ghost use Rattle.scitt_io.specs.Causes.{Rose};
+ghost use Rattle.scitt_tool.specs.Reads.{FileOf, Tells, ReadOf};
+
+use scitt_io::{Folder, ReadStop, read_to_end};
+use std::alloc::Global;
+
+/// How long a chosen file may be, in bytes.
+const LIMIT: u64 = 16_777_216;
+
+/// The whole of the named file.
+pub(crate) fn read_file<F: Folder>(
+    alloc: Global,
+    files: &mut F,
+    name: &str,
+) -> Result<Vec<u8>, ReadStop>
+    ensures reads { (file_of : FileOf) × Tells (F.files files.old) file_of × ReadOf (file_of name.now) result }
+    ensures end { OnOk result (IsAtEnd (F.left files.new)) }
+    ensures fault { IsErrOf result ReadStop.ReadFault → Rose (F.faults files.old) (F.faults files.new) }
+    ensures no_fault { (IsErrOf result ReadStop.ReadFault → ⊥) → F.faults files.new ≡ F.faults files.old }
+    ensures kept { F.files files.new ≡ F.files files.old }
+{
+    files.choose(name)?;
+    read_to_end(alloc, files, LIMIT)
+}

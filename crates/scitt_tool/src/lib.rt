@@ -1,0 +1,12 @@
+//! All that the program `scitt` does, as one call over the objects that it is handed.
+#![tactic(auto)]
+
+mod answer;
+mod command;
+mod fault;
+mod file;
+mod root;
+mod run;
+
+pub use answer::Status;
+pub use run::run_tool;
