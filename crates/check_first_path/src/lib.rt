@@ -1,0 +1,11 @@
+//! Tests of the first path: `run_tool` on `root`, over files in memory, and the objects of `scitt_io`.
+#![tactic(auto)]
+
+#[cfg(test)]
+mod objects;
+#[cfg(test)]
+mod outside;
+#[cfg(test)]
+mod rows;
+#[cfg(test)]
+mod runs;
