@@ -18,6 +18,10 @@ after_call plan =
 abbrev pub after_fault : Plan → Plan
 after_fault plan = record plan { faults = raised plan.faults }
 
+-- the plan after a call that failed, listed or not: one fault was counted
+abbrev pub after_refusal : Plan → Plan
+after_refusal plan = if is_listed plan then after_call plan else after_fault (after_call plan)
+
 -- the plan at the start
 abbrev pub plan_of : Vec ℕ → Plan
 plan_of fails = record { fails = fails; made = 0; faults = 0 }

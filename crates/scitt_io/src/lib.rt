@@ -18,4 +18,4 @@ pub use real::{FileFolder, StdSink};
 pub use sink::{Sink, WriteFault, write_all};
 pub use source::{ReadFault, ReadStop, Source, read_to_end};
 pub use sure::{SureFolder, SureSink, SureSource};
-pub use words::Words;
+pub use words::{OutOfMemory, Words};

@@ -126,7 +126,7 @@ impl MemSink {
 }
 
 impl Sink for MemSink {
-    ghost use Rattle.scitt_io.specs.Plan.{is_listed, after_call, after_fault};
+    ghost use Rattle.scitt_io.specs.Plan.{is_listed, after_call, after_refusal};
 
     ghost taken = { λ s. Some s.taken };
 
@@ -148,7 +148,8 @@ impl Sink for MemSink {
         ensures keeps { Unit {0} }
         ensures whole { IfOk result (λ n. n ≡ length bytes.now) }
         ensures listed { IsTrue (is_listed self.old.plan) → IsErr result }
-        ensures counted { (self.new.plan ≡ after_call self.old.plan) ⊎ (self.new.plan ≡ after_fault (after_call self.old.plan)) }
+        ensures counted { OnOk result (self.new.plan ≡ after_call self.old.plan) }
+        ensures refused { OnErr result (self.new.plan ≡ after_refusal self.old.plan) }
     {
         if self.plan.fails_now() {
             return Err(WriteFault);
@@ -240,7 +241,7 @@ impl Source for MemFolder {
 }
 
 impl Folder for MemFolder {
-    ghost use Rattle.scitt_io.specs.Plan.{is_listed, after_call};
+    ghost use Rattle.scitt_io.specs.Plan.{is_listed, after_call, after_refusal};
     ghost use Rattle.scitt_io.specs.Files.{file_named, ReadsFile};
 
     ghost files = { λ f. Some (file_named f.files) };
@@ -257,6 +258,8 @@ impl Folder for MemFolder {
         ensures kept { Some (file_named self.new.files) ≡ Some (file_named self.old.files) }
         ensures cause { HasCause self.old.plan.faults self.new.plan.faults result }
         ensures listed { IsErr result ↔ (IsTrue (is_listed self.old.plan) ⊎ (file_named self.old.files name.now ≡ None)) }
+        ensures counted { OnOk result (self.new.plan ≡ after_call self.old.plan) }
+        ensures refused { OnErr result (self.new.plan ≡ after_refusal self.old.plan) }
     {
         if self.plan.fails_now() {
             return Err(ReadFault);

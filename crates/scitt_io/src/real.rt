@@ -29,7 +29,10 @@ pub struct FileFolder<R: Files + Input + Drop> {
 }
 
 impl<R: Files + Input + Drop> FileFolder<R> {
-    pub fn new(system: R) -> Self {
+    /// Files of which none is chosen yet, with no fault counted.
+    pub fn new(system: R) -> Self
+        ensures { ⟦<FileFolder<R> as Source>⟧.faults result ≡ 0 }
+    {
         FileFolder {
             system,
             chosen: Chosen::Nothing,
@@ -104,7 +107,10 @@ pub struct StdSink<P: Print + Drop> {
 }
 
 impl<P: Print + Drop> StdSink<P> {
-    pub fn new(out: P) -> Self {
+    /// Standard output with no fault counted.
+    pub fn new(out: P) -> Self
+        ensures { ⟦<StdSink<P> as Sink>⟧.refused result ≡ 0 }
+    {
         StdSink { out, faults: 0 }
     }
 }

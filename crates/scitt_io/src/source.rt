@@ -89,8 +89,11 @@ impl From<AllocError> for ReadStop {
 /// How many bytes one read asks for.
 const PIECE: usize = 16384;
 
-/// All bytes that are left in `source`, at most `limit` of them. It stops at the first byte past the
-/// limit, which it has then taken.
+/// All bytes that are left in `source`, at most `limit` of them.
+///
+/// `TooLong` comes exactly where more than the limit was left: one byte past it was taken then.
+/// `ReadFault` comes only where the source's count rose. After these two and `OutOfMemory` the bytes read
+/// so far are lost, and what follows them is left.
 pub fn read_to_end<S: Source>(
     alloc: Global,
     source: &mut S,

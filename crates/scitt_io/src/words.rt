@@ -3,6 +3,9 @@ ghost use Rattle.std.specs.Prelude.{◌≡◌, ◌<◌, List, [], ◌∷◌, ◌
 use std::alloc::{AllocError, Global};
 use std::marker::Model;
 
+/// Want of memory.
+pub type OutOfMemory = AllocError;
+
 /// The words of a command line, as a list of texts.
 #[derive(Drop)]
 pub struct Words {
@@ -28,7 +31,7 @@ impl Words {
     }
 
     /// Adds a word at the end. Want of memory leaves the words as they were.
-    pub fn push(&mut self, word: &str) -> Result<(), AllocError>
+    pub fn push(&mut self, word: &str) -> Result<(), OutOfMemory>
         ensures pushed { OnOk result (self.new ≡ self.old ++ word.now ∷ []) }
         ensures kept { OnErr result (self.new ≡ self.old) }
     {

@@ -23,7 +23,7 @@ short_file Judged bytes answer short (inr long) = absurd (omega (arith, long.0))
 
 due_root : (words : List (List ℕ)) (file_of : FileOf) (before now : ℕ) (answer : Answer) (file bytes : List ℕ) → command_of words ≡ Some (Root file) → file_of file ≡ Some bytes
     → length bytes ≤ limit → ¬ Rose before now → IsDue words file_of before now answer → RootOf bytes answer
-due_root words file_of before now answer file bytes command found short calm (inr fault) = absurd (calm fault.1)
+due_root words file_of before now answer file bytes command found short calm (inr fault) = absurd (calm fault.2)
 due_root words file_of before now answer file bytes command found short calm (inl text) =
     let of_command : CommandText (Some (Root file)) file_of answer = subst (λ (c : Option Command). CommandText c file_of answer) command text in
     short_file RootOf bytes answer short (subst (λ (f : Option (List ℕ)). ByFile RootOf f answer) found of_command)

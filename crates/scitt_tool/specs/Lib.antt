@@ -7,3 +7,4 @@ pub mod FaultText
 pub mod Root
 pub mod ToolText
 pub mod Run
+pub mod Printed

@@ -1,5 +1,5 @@
 -- A run of the tool: what it was to answer, and what it wrote.
-use Rattle.std.specs.Prelude.{◌≡◌, ◌⊎◌, ◌≤◌, ℕ, List, length, Some}
+use Rattle.std.specs.Prelude.{◌≡◌, ◌⊎◌, ◌≤◌, ℕ, List, length, Some, IsSome}
 use Rattle.std.specs.declared.option.Option.{Option}
 use Rattle.std.specs.Io.KnownBytes.{Appends}
 use Rattle.scitt_io.specs.Causes.{Rose}
@@ -9,9 +9,10 @@ use Rattle.scitt_tool.specs.Reads.{FileOf, Tells, told_file, limit}
 use Rattle.scitt_tool.specs.Root.{RootOf}
 use Rattle.scitt_tool.specs.ToolText.{ToolText}
 
--- what there is to answer: what words and files call for, or a read fault, where the folder's count rose
+-- what there is to answer: what words and files call for, or, to a command, a read fault, where the folder's count rose
 abbrev pub IsDue : List (List ℕ) → FileOf → ℕ → ℕ → Answer → Type 0
-IsDue words file_of before now answer = ToolText words file_of answer ⊎ ((answer ≡ unread) × Rose before now)
+IsDue words file_of before now answer =
+    ToolText words file_of answer ⊎ (IsSome (command_of words) × (answer ≡ unread) × Rose before now)
 
 -- The words, the folder's files and its count before and after, what was written and the sink's count before and after, and
 -- the status: what there was to answer, over the told files, was said.

@@ -5,6 +5,7 @@ mod answer;
 mod command;
 mod fault;
 mod file;
+mod printed;
 mod root;
 mod run;
 

@@ -1,4 +1,4 @@
-ghost use Rattle.std.specs.Prelude.{◌≡◌, ◌≤◌, ◌⊎◌, ◌≢◌, ℕ, List, is_some, None, IfOk, IsOkAnd};
+ghost use Rattle.std.specs.Prelude.{◌≡◌, ◌≤◌, ◌⊎◌, ◌≢◌, ℕ, List, is_some, None, IfOk, IsOkAnd, OnErr};
 ghost use Rattle.std.specs.Io.KnownBytes.{IsAtEnd};
 ghost use Rattle.scitt_io.specs.Causes.{Rose};
 ghost use Rattle.scitt_tool.specs.Command.{command_of};
@@ -38,6 +38,7 @@ pub fn run_tool<F: Folder, K: Sink>(
     ensures words_refused { command_of words.now ≡ None → (result ≡ 2) ⊎ (result ≡ 4) }
     ensures only_words { result ≡ 2 → command_of words.now ≡ None }
     ensures read_fault { result ≡ 3 → Rose (F.faults files.old) (F.faults files.new) }
+    ensures no_read_fault { result ≢ 3 → result ≢ 4 → F.faults files.new ≡ F.faults files.old }
     ensures read_whole { result ≡ 0 → IsAtEnd (F.left files.new) }
     ensures complete { RootCompletes words.now (F.files files.old) (F.faults files.old) (F.faults files.new)
         (K.taken out.old) (K.taken out.new) (K.refused out.old) (K.refused out.new) result }
@@ -56,6 +57,8 @@ fn answer<F: Folder>(alloc: Global, words: &Words, files: &mut F) -> Result<Answ
     ensures words_refused { command_of words.now ≡ None → IsOkAnd result (λ answer. answer.status ≡ 2) }
     ensures only_words { IfOk result (λ answer. answer.status ≡ 2 → command_of words.now ≡ None) }
     ensures read_fault { IfOk result (λ answer. answer.status ≡ 3 → Rose (F.faults files.old) (F.faults files.new)) }
+    ensures no_read_fault { IfOk result (λ answer. answer.status ≢ 3 → F.faults files.new ≡ F.faults files.old) }
+    ensures no_memory { OnErr result (F.faults files.new ≡ F.faults files.old) }
     ensures read_whole { IfOk result (λ answer. answer.status ≡ 0 → IsAtEnd (F.left files.new)) }
     ensures no_other { IfOk result (λ answer. (answer.status ≢ 4) × (answer.status ≢ 5)) }
 {
