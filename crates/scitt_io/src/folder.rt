@@ -10,8 +10,8 @@ pub trait Folder: Source {
     // the bytes of the file of each name, where the folder tells its files
     ghost files: { Self → Option (List ℕ → Option (List ℕ)) };
 
-    /// Makes the named file's bytes what is left to read. A missing file is a fault. A fault leaves
-    /// what is left as it was. Before the first choice nothing is left.
+    /// Chooses the file of this name, which reads then give from its first byte on. It is a fault where
+    /// there is no such file, and what was being read goes on then. Before any choice reads give nothing.
     fn choose(&mut self, name: &str) -> Result<(), ReadFault>
         ensures chosen { OnOk result (IfSome (files self.old) (λ file_of. ReadsFile (file_of name.now) (Self.left self.new))) }
         ensures unchosen { OnErr result (Self.left self.new ≡ Self.left self.old) }

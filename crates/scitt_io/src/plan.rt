@@ -3,8 +3,8 @@ ghost use Rattle.std.specs.List.{list_any};
 ghost use Rattle.scitt_io.specs.Causes.{raised};
 ghost use Rattle.scitt_io.specs.Plan.{is_listed, after_call, after_fault};
 
-/// Which calls of a memory form fail: their numbers, counted from 0 over all calls of the object's
-/// traits together, with the number of calls made and of faults so far.
+/// The calls of a memory form that are to fail, each by its number: the object's first call of any of
+/// its traits is 0. Beside them stand how many calls were made and how many faults came so far.
 #[derive(Drop)]
 pub struct Plan {
     pub fails: Vec<u32>,

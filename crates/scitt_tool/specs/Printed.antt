@@ -1,4 +1,5 @@
--- How texts from outside are printed: a byte outside 20 to 7e, and the backslash, is `\x` and two hexadecimal digits.
+-- How texts from outside are printed: ASCII from the blank to the tilde as it is, without the backslash, and any other
+-- byte as `\x` with its two digits in lower-case hexadecimal.
 use Rattle.std.specs.Prelude.{ℕ, ◌||◌, ◌==◌, Bool, List, [], ◌∷◌, nat_lt, if◌then◌else◌}
 use Rattle.std.specs.List.{flat_map}
 use Rattle.hex.specs.Hex.{encode_lower}
