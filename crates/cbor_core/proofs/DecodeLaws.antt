@@ -1,17 +1,18 @@
 -- The laws of decoding, over all bytes.
-use Rattle.std.proofs.Common.{◌≡◌, ℕ, zero, suc, ◌+◌, ◌-◌, ◌<◌, ◌≤◌, ◌⊎◌, List, [], ◌∷◌, ◌++◌, length, take, drop, Option, Some, None, Result, Ok, Err, refl, sym, ap, subst, ◌∙◌, inl, inr, arith, append_assoc}
-use Rattle.std.proofs.lemmas.List.{append-nil, length-append, append_cancel_right, take_at, take-append-drop, take_all}
+use Rattle.std.proofs.Common.{◌≡◌, ℕ, zero, suc, ◌-◌, ◌≤◌, ◌⊎◌, List, [], ◌∷◌, ◌++◌, length, take, drop, Some, Result, Ok, Err, refl, sym, ap, subst, ◌∙◌, inl, inr, arith, append_assoc}
+use Rattle.std.proofs.lemmas.List.{append-nil, length-append, append_cancel_right, take_at, take-append-drop, length-take}
 use Rattle.cbor_core.specs.declared.words.Grammar.{Grammar}
-use Rattle.cbor_core.specs.declared.words.Grammar.TheVariants.{Strict, Wide}
+use Rattle.cbor_core.specs.declared.words.Grammar.TheVariants.{Strict}
 use Rattle.cbor_core.specs.declared.words.Why.{Why}
+use Rattle.cbor_core.specs.declared.words.DecodeStop.TheVariants.{Fault as AtFault, OutOfMemory}
 use Rattle.cbor_core.specs.declared.heads.Stop.{Stop}
 use Rattle.cbor_core.specs.declared.tree.Item.{Item}
 use Rattle.cbor_core.specs.Bytes.{IsBytes}
 use Rattle.cbor_core.specs.Head.{head}
-use Rattle.cbor_core.specs.Spells.{SpellEach, SpellsIn, Spells}
-use Rattle.cbor_core.specs.Faults.{StuckAtHead, StuckAfter, StuckAtPair, StuckInPairs, StuckInside, Stuck, FaultIn}
+use Rattle.cbor_core.specs.Spells.{SpellsIn, Spells}
+use Rattle.cbor_core.specs.Faults.{StuckAtPair, StuckInPairs, StuckInside, Stuck, FaultIn}
 use Rattle.cbor_core.specs.Reading.{read_in}
-use Rattle.cbor_core.specs.Decoding.{HasPrefix, HasFault, PrefixFree, PrefixOrFault, NotBoth, OneFault, whole, strict_item, ItemIsSpelled, SpelledIsItem}
+use Rattle.cbor_core.specs.Decoding.{HasPrefix, HasFault, PrefixFree, PrefixOrFault, NotBoth, OneFault, RoundTrip, whole, strict_item, ItemIsSpelled, SpelledIsItem}
 use Rattle.cbor_core.proofs.StepLemmas.{IsBytes-after, ok_is, ok_err, err_is}
 use Rattle.cbor_core.proofs.HeadLemmas.{head-read}
 use Rattle.cbor_core.proofs.ReadLaws.{read-again, read-spelled, read-stops, read-stuck}
@@ -130,3 +131,17 @@ item_is_spelled bytes item fits e =
 pub spelled_is_item : SpelledIsItem
 unfolding strict_item
 spelled_is_item bytes item s = ap whole (ap (read_in Strict 16) (sym (append-nil bytes)) ∙ spelled-again Strict item bytes [] s)
+
+-- ---- the round trip
+
+pub round_trip : RoundTrip
+round_trip g item text rest (Ok found) s (le, t) =
+    let bytes = text ++ rest in
+    let n = found.1 in
+    let p = prefix_free g item found.0 text (take n bytes) rest (drop n bytes) s t (sym (take-append-drop n bytes)) in
+    let len : length text ≡ n = omega (arith, ap length p.1, length-take n bytes) in
+    inl (λ i. Ok (sym p.0 i, sym len i))
+round_trip g item text rest (Err (AtFault fault)) s w =
+    let front : take (length text) (text ++ rest) ≡ text = take_at text rest (length text) refl in
+    absurd (not_both g (text ++ rest) (item, length text, omega (arith, length-append text rest), subst (λ (t : List ℕ). Spells g item t) (sym front) s) (fault.at, fault.why, w))
+round_trip g item text rest (Err OutOfMemory) s w = inr refl

@@ -1,7 +1,7 @@
 -- A head that is read is the head that was written, and what was written is read again.
-use Rattle.std.proofs.Common.{◌≡◌, ℕ, zero, suc, ◌+◌, ◌-◌, ◌*◌, ◌/◌, ◌%◌, ◌^◌, ◌<◌, ◌≤◌, ◌⊎◌, Bool, true, false, cond, ◌&&◌, ◌==◌, List, [], ◌∷◌, ◌++◌, length, get_or, take, drop, Result, Ok, Err, refl, sym, ap, subst, ◌∙◌, inl, inr, arith, nat_lt, ltb-false, ltb-true, le-ltb, lt-ltb, eq-eqb, ne_eqb, eqb-true}
-use Rattle.std.specs.Int.{Width, w8, w16, w32, w64, byte_len, from_be_bytes, to_be_bytes}
-use Rattle.std.proofs.lemmas.Bool.{cases_lt, cases_eq, and_left, and_right, and_cases, eqb-false}
+use Rattle.std.proofs.Common.{◌≡◌, ℕ, ◌+◌, ◌*◌, ◌/◌, ◌%◌, ◌<◌, ◌≤◌, true, false, cond, ◌==◌, List, [], ◌∷◌, ◌++◌, length, take, drop, Result, Ok, Err, refl, sym, subst, inl, inr, arith, nat_lt, ltb-false, ltb-true, le-ltb, lt-ltb, ne_eqb, eqb-true}
+use Rattle.std.specs.Int.{w8, byte_len, from_be_bytes, to_be_bytes}
+use Rattle.std.proofs.lemmas.Bool.{and_left, and_right}
 use Rattle.std.proofs.lemmas.List.{take_at, drop_at, take-append-drop, length-append, length-take}
 use Rattle.std.proofs.lemmas.Nat.{be_bytes_2, be_bytes_4, be_bytes_8, from_be_bytes-to_be_bytes_2, from_be_bytes-to_be_bytes_4, from_be_bytes-to_be_bytes_8}
 use Rattle.cbor_core.specs.declared.words.Grammar.{Grammar}
@@ -12,62 +12,65 @@ use Rattle.cbor_core.specs.declared.heads.Size.{Size}
 use Rattle.cbor_core.specs.declared.heads.Size.TheVariants.{Within, One, Two, Four, Eight}
 use Rattle.cbor_core.specs.declared.heads.Head.{Head}
 use Rattle.cbor_core.specs.Bytes.{IsBytes}
-use Rattle.cbor_core.specs.Head.{information, argument_bytes, limit, least, MayStand, head, is_reserved, width, sized_by, sized, head_at}
+use Rattle.cbor_core.specs.Head.{information, argument_bytes, width, is_own, limit, least, MayStand, head, is_reserved, sized, head_at}
 use Rattle.cbor_core.specs.Spells.{is_strict}
-use Rattle.cbor_core.proofs.StepLemmas.{IsBytes-drop, IsBytes-take, IsBytes-tail, chosen, ok_is, err_ok}
+use Rattle.cbor_core.proofs.StepLemmas.{IsBytes-front, IsBytes-tail, chosen, ok_is, err_ok}
 
--- ---- numbers
+-- ---- an argument and its bytes, by their size
 
--- a number below the limit and its bytes are one another's
-pub record IsWide (w : Width) (limit : ℕ) : Type 0 where
-  pub len : (n : ℕ) → length (to_be_bytes w n) ≡ byte_len w
-  pub back : (bytes : List ℕ) → length bytes ≡ byte_len w → IsBytes bytes → to_be_bytes w (from_be_bytes w bytes) ≡ bytes
-  pub again : (n : ℕ) → n < limit → from_be_bytes w (to_be_bytes w n) ≡ n
-  pub below : (bytes : List ℕ) → IsBytes bytes → from_be_bytes w bytes < limit
+one_byte : (n : ℕ) → n < 256 → from_be_bytes w8 (to_be_bytes w8 n) ≡ n
+one_byte n lt = let whole : n % 256 ≡ n = omega arith in grind (arith, whole)
 
-byte_back : (bytes : List ℕ) → length bytes ≡ 1 → IsBytes bytes → to_be_bytes w8 (from_be_bytes w8 bytes) ≡ bytes
-byte_back [] e fits = absurd (omega arith)
-byte_back (b ∷ []) e fits = let h : b < 256 = fits 0 in let m : b % 256 ≡ b = omega arith in grind (arith, m)
-byte_back (b ∷ c ∷ bs) e fits = absurd (omega arith)
+its_byte : (bytes : List ℕ) → length bytes ≡ 1 → IsBytes bytes → to_be_bytes w8 (from_be_bytes w8 bytes) ≡ bytes
+its_byte [] e fits = absurd (omega arith)
+its_byte (b ∷ []) e fits = let lt : b < 256 = fits 0 in let whole : b % 256 ≡ b = omega arith in grind (arith, whole)
+its_byte (b ∷ c ∷ more) e fits = absurd (omega arith)
 
-byte_again : (n : ℕ) → n < 2 ^ 8 → from_be_bytes w8 (to_be_bytes w8 n) ≡ n
-byte_again n h = let m : n % 256 ≡ n = omega arith in grind (arith, m)
+argument_len : (size : Size) (n : ℕ) → length (to_be_bytes (width size) n) ≡ byte_len (width size)
+argument_len Within n = refl
+argument_len One n = refl
+argument_len Two n = refl
+argument_len Four n = refl
+argument_len Eight n = refl
 
-pub wide8 : IsWide w8 (2 ^ 8)
-wide8 = record { len = λ n. refl; back = byte_back; again = byte_again; below = λ bytes fits. omega (arith, fits 0) }
+-- an argument that its size holds is spelled by its bytes
+argument_again : (size : Size) (n : ℕ) → n < limit size → from_be_bytes (width size) (to_be_bytes (width size) n) ≡ n
+argument_again Within n lt = one_byte n (omega arith)
+argument_again One n lt = one_byte n lt
+argument_again Two n lt = from_be_bytes-to_be_bytes_2 n lt
+argument_again Four n lt = from_be_bytes-to_be_bytes_4 n lt
+argument_again Eight n lt = from_be_bytes-to_be_bytes_8 n lt
 
-pub wide16 : IsWide w16 (2 ^ 16)
-wide16 = record {
-  len = λ n. refl;
-  back = λ bytes len fits. be_bytes_2 bytes _ len fits refl;
-  again = λ n lt. from_be_bytes-to_be_bytes_2 n lt;
-  below = λ bytes fits. omega (arith, fits 0, fits 1);
-}
+-- as many bytes as a size has are those of the argument that they spell
+its_bytes : (size : Size) (bytes : List ℕ) → length bytes ≡ byte_len (width size) → IsBytes bytes → to_be_bytes (width size) (from_be_bytes (width size) bytes) ≡ bytes
+its_bytes Within bytes e fits = its_byte bytes e fits
+its_bytes One bytes e fits = its_byte bytes e fits
+its_bytes Two bytes e fits = be_bytes_2 bytes _ e fits refl
+its_bytes Four bytes e fits = be_bytes_4 bytes _ e fits refl
+its_bytes Eight bytes e fits = be_bytes_8 bytes _ e fits refl
 
-pub wide32 : IsWide w32 (2 ^ 32)
-wide32 = record {
-  len = λ n. refl;
-  back = λ bytes len fits. be_bytes_4 bytes _ len fits refl;
-  again = λ n lt. from_be_bytes-to_be_bytes_4 n lt;
-  below = λ bytes fits. omega (arith, fits 0, fits 1, fits 2, fits 3);
-}
-
-pub wide64 : IsWide w64 (2 ^ 64)
-wide64 = record {
-  len = λ n. refl;
-  back = λ bytes len fits. be_bytes_8 bytes _ len fits refl;
-  again = λ n lt. from_be_bytes-to_be_bytes_8 n lt;
-  below = λ bytes fits. omega (arith, fits 0, fits 1, fits 2, fits 3, fits 4, fits 5, fits 6, fits 7);
-}
+-- and that argument fits its size, where the size has bytes of its own
+argument_fits : (size : Size) (bytes : List ℕ) → is_own size ≡ true → IsBytes bytes → from_be_bytes (width size) bytes < limit size
+argument_fits Within bytes own fits = absurd cc
+argument_fits One bytes own fits = omega (arith, fits 0)
+argument_fits Two bytes own fits = omega (arith, fits 0, fits 1)
+argument_fits Four bytes own fits = omega (arith, fits 0, fits 1, fits 2, fits 3)
+argument_fits Eight bytes own fits = omega (arith, fits 0, fits 1, fits 2, fits 3, fits 4, fits 5, fits 6, fits 7)
 
 -- ---- a head is read again
 
-sized-again : (w : Width) (most : ℕ) (wide : IsWide w most) (first : ℕ) (size : Size) (n : ℕ) (rest : List ℕ) → n < most → is_reserved first n ≡ false
-    → sized_by first size w (to_be_bytes w n ++ rest) ≡ Ok (record { major = first / 32; size = size; argument = n }, rest)
-sized-again w most wide first size n rest lt free =
-    let len = wide.len n in
-    let long : nat_lt (length (to_be_bytes w n ++ rest)) (byte_len w) ≡ false = le-ltb _ _ (omega (arith, length-append (to_be_bytes w n) rest)) in
-    rw (long, take_at (to_be_bytes w n) rest (byte_len w) len, drop_at (to_be_bytes w n) rest (byte_len w) len, wide.again n lt, free) refl
+-- a head whose argument stands in these bytes, in front of others
+reads_front : (first : ℕ) (size : Size) (text rest : List ℕ) → length text ≡ byte_len (width size) → is_reserved first (from_be_bytes (width size) text) ≡ false
+    → sized first size (text ++ rest) ≡ Ok (record { major = first / 32; size = size; argument = from_be_bytes (width size) text }, rest)
+reads_front first size text rest len free =
+    let enough : nat_lt (length (text ++ rest)) (byte_len (width size)) ≡ false = le-ltb _ _ (omega (arith, length-append text rest)) in
+    rw (enough, take_at text rest (byte_len (width size)) len, drop_at text rest (byte_len (width size)) len, free) refl
+
+sized-again : (first : ℕ) (size : Size) (n : ℕ) (rest : List ℕ) → n < limit size → is_reserved first n ≡ false
+    → sized first size (to_be_bytes (width size) n ++ rest) ≡ Ok (record { major = first / 32; size = size; argument = n }, rest)
+sized-again first size n rest lt free =
+    let again = argument_again size n lt in
+    rw again at (reads_front first size (to_be_bytes (width size) n) rest (argument_len size n) (rw again free))
 
 rest_of : (m i : ℕ) → i < 32 → (32 * m + i) % 32 ≡ i
 rest_of m i h = omega arith
@@ -85,13 +88,13 @@ unfolding head_at
 head-again major Within n rest lt free =
     rw (rest_of major n (omega arith), major_of major n (omega arith), lt-ltb n 24 lt) refl
 head-again major One n rest lt free =
-    rw (rest_of major 24 (omega arith), sized-again w8 (2 ^ 8) wide8 (32 * major + 24) One n rest lt free, major_of major 24 (omega arith)) refl
+    rw (rest_of major 24 (omega arith), sized-again (32 * major + 24) One n rest lt free, major_of major 24 (omega arith)) refl
 head-again major Two n rest lt free =
-    rw (rest_of major 25 (omega arith), sized-again w16 (2 ^ 16) wide16 (32 * major + 25) Two n rest lt free, major_of major 25 (omega arith)) refl
+    rw (rest_of major 25 (omega arith), sized-again (32 * major + 25) Two n rest lt free, major_of major 25 (omega arith)) refl
 head-again major Four n rest lt free =
-    rw (rest_of major 26 (omega arith), sized-again w32 (2 ^ 32) wide32 (32 * major + 26) Four n rest lt free, major_of major 26 (omega arith)) refl
+    rw (rest_of major 26 (omega arith), sized-again (32 * major + 26) Four n rest lt free, major_of major 26 (omega arith)) refl
 head-again major Eight n rest lt free =
-    rw (rest_of major 27 (omega arith), sized-again w64 (2 ^ 64) wide64 (32 * major + 27) Eight n rest lt free, major_of major 27 (omega arith)) refl
+    rw (rest_of major 27 (omega arith), sized-again (32 * major + 27) Eight n rest lt free, major_of major 27 (omega arith)) refl
 
 -- below major type 7 no number is reserved
 pub free_below : (major : ℕ) (size : Size) (n : ℕ) → major < 7 → n < limit size → is_reserved (32 * major + information size n) n ≡ false
@@ -117,29 +120,30 @@ pub record IsRead (bytes : List ℕ) (h : Head) (rest : List ℕ) : Type 0 where
 first_again : (b i : ℕ) → b % 32 ≡ i → 32 * (b / 32) + i ≡ b
 first_again b i e = omega arith
 
-sized-read : (w : Width) (most : ℕ) (wide : IsWide w most) (b i : ℕ) (size : Size) (bytes : List ℕ) (h : Head) (rest : List ℕ) → b < 256 → b % 32 ≡ i
-    → ((n : ℕ) → information size n ≡ i) → ((n : ℕ) → argument_bytes size n ≡ to_be_bytes w n) → limit size ≡ most → IsBytes bytes → sized_by b size w bytes ≡ Ok (h, rest) → IsRead (b ∷ bytes) h rest
-sized-read w most wide b i size bytes h rest lt is info arg lim fits e =
-    let front = take (byte_len w) bytes in
-    let n = from_be_bytes w front in
-    let end = drop (byte_len w) bytes in
+sized-read : (b i : ℕ) (size : Size) (bytes : List ℕ) (h : Head) (rest : List ℕ) → is_own size ≡ true → b < 256 → b % 32 ≡ i
+    → ((n : ℕ) → information size n ≡ i) → ((n : ℕ) → argument_bytes size n ≡ to_be_bytes (width size) n) → IsBytes bytes → sized b size bytes ≡ Ok (h, rest) → IsRead (b ∷ bytes) h rest
+sized-read b i size bytes h rest own lt is info arg fits e =
+    let len = byte_len (width size) in
+    let front = take len bytes in
+    let n = from_be_bytes (width size) front in
+    let end = drop len bytes in
     let x : Head × List ℕ = (record { major = b / 32; size = size; argument = n }, end) in
-    elim (chosen (nat_lt (length bytes) (byte_len w)) (Err Truncated) (cond (is_reserved b n) (Err Reserved) (Ok x)) (Ok (h, rest)) e) [
+    elim (chosen (nat_lt (length bytes) len) (Err Truncated) (cond (is_reserved b n) (Err Reserved) (Ok x)) (Ok (h, rest)) e) [
       | inl cut ↦ absurd (err_ok _ _ cut.1)
       | inr long ↦ elim (chosen (is_reserved b n) (Err Reserved) (Ok x) (Ok (h, rest)) long.1) [
         | inl taken ↦ absurd (err_ok _ _ taken.1)
         | inr free ↦
-          let enough : byte_len w ≤ length bytes = ltb-false _ _ long.0 in
-          let front_fits = IsBytes-take (byte_len w) bytes fits in
-          let back : to_be_bytes w n ≡ front = wide.back front (omega (arith, length-take (byte_len w) bytes)) front_fits in
-          let first : 32 * (b / 32) + information size n ≡ b = rw (info n) (first_again b i is) in
-          let found : IsRead (b ∷ bytes) (record { major = b / 32; size = size; argument = n }) end = record {
-            parts = rw (first, arg n, back, take-append-drop (byte_len w) bytes);
-            major = omega arith;
-            fits = rw lim (wide.below front front_fits);
-            free = rw first free.0;
-          } in
-          subst (λ (y : Head × List ℕ). IsRead (b ∷ bytes) y.0 y.1) (ok_is x (h, rest) free.1) found
+            let enough : len ≤ length bytes = ltb-false _ _ long.0 in
+            let front_fits = IsBytes-front bytes front end fits (sym (take-append-drop len bytes)) in
+            let back : to_be_bytes (width size) n ≡ front = its_bytes size front (omega (arith, length-take len bytes)) front_fits in
+            let first : 32 * (b / 32) + information size n ≡ b = rw (info n) (first_again b i is) in
+            let found : IsRead (b ∷ bytes) (record { major = b / 32; size = size; argument = n }) end = record {
+              parts = rw (first, arg n, back, take-append-drop len bytes);
+              major = omega arith;
+              fits = argument_fits size front own front_fits;
+              free = rw first free.0;
+            } in
+            subst (λ (y : Head × List ℕ). IsRead (b ∷ bytes) y.0 y.1) (ok_is x (h, rest) free.1) found
       ]
     ]
 
@@ -171,13 +175,13 @@ head-read (b ∷ bytes) h rest fits e =
     elim (chosen (nat_lt i 24) here e1 goal e) [
       | inl p ↦ within-read b bytes h rest lt (ltb-true i 24 p.0) p.1
       | inr p ↦ elim (chosen (i == 24) (sized b One bytes) e2 goal p.1) [
-        | inl q ↦ sized-read w8 (2 ^ 8) wide8 b 24 One bytes h rest lt (eqb-true i 24 q.0) (λ n. refl) (λ n. refl) refl tail q.1
+        | inl q ↦ sized-read b 24 One bytes h rest refl lt (eqb-true i 24 q.0) (λ n. refl) (λ n. refl) tail q.1
         | inr q ↦ elim (chosen (i == 25) (sized b Two bytes) e3 goal q.1) [
-          | inl r ↦ sized-read w16 (2 ^ 16) wide16 b 25 Two bytes h rest lt (eqb-true i 25 r.0) (λ n. refl) (λ n. refl) refl tail r.1
+          | inl r ↦ sized-read b 25 Two bytes h rest refl lt (eqb-true i 25 r.0) (λ n. refl) (λ n. refl) tail r.1
           | inr r ↦ elim (chosen (i == 26) (sized b Four bytes) e4 goal r.1) [
-            | inl s ↦ sized-read w32 (2 ^ 32) wide32 b 26 Four bytes h rest lt (eqb-true i 26 s.0) (λ n. refl) (λ n. refl) refl tail s.1
+            | inl s ↦ sized-read b 26 Four bytes h rest refl lt (eqb-true i 26 s.0) (λ n. refl) (λ n. refl) tail s.1
             | inr s ↦ elim (chosen (i == 27) (sized b Eight bytes) e5 goal s.1) [
-              | inl t ↦ sized-read w64 (2 ^ 64) wide64 b 27 Eight bytes h rest lt (eqb-true i 27 t.0) (λ n. refl) (λ n. refl) refl tail t.1
+              | inl t ↦ sized-read b 27 Eight bytes h rest refl lt (eqb-true i 27 t.0) (λ n. refl) (λ n. refl) tail t.1
               | inr t ↦ elim (chosen (nat_lt i 31) (Err Reserved) (Err Indefinite) goal t.1) [ inl u ↦ absurd (err_ok _ _ u.1) | inr u ↦ absurd (err_ok _ _ u.1) ]
             ]
           ]

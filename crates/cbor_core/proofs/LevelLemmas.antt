@@ -1,30 +1,27 @@
 -- One level of an item, given its parts.
-use Rattle.std.proofs.Common.{◌≡◌, ℕ, zero, suc, ◌+◌, ◌-◌, ◌*◌, ◌<◌, ◌≤◌, ◌⊎◌, Bool, true, false, cond, ◌==◌, nat_lt, List, [], ◌∷◌, ◌++◌, length, take, drop, Option, Some, None, Result, Ok, Err, refl, sym, ap, subst, ◌∙◌, inl, inr, arith, append_assoc, eq-eqb, ne_eqb, eqb-true}
-use Rattle.std.specs.Str.{IsUtf8, is_utf8}
-use Rattle.std.proofs.lemmas.Str.{IsUtf8-from_is_utf8, is_utf8-from_IsUtf8}
-use Rattle.std.proofs.lemmas.Bool.{eqb-false, and_left}
-use Rattle.std.proofs.lemmas.List.{append-nil, length-append, length-take, take_at, drop_at, take-append-drop}
+use Rattle.std.proofs.Common.{◌≡◌, ℕ, ◌+◌, ◌*◌, ◌<◌, ◌≤◌, true, false, ◌==◌, nat_lt, List, [], ◌++◌, length, Result, Ok, refl, sym, ap, ◌∙◌, inl, inr, arith, append_assoc, ne_eqb}
+use Rattle.std.specs.Str.{IsUtf8}
+use Rattle.std.proofs.lemmas.Str.{is_utf8-from_IsUtf8}
+use Rattle.std.proofs.lemmas.Bool.{and_left}
+use Rattle.std.proofs.lemmas.List.{length-append, take_at, drop_at}
 use Rattle.cbor_core.specs.declared.words.Grammar.{Grammar}
 use Rattle.cbor_core.specs.declared.words.Grammar.TheVariants.{Strict, Wide}
-use Rattle.cbor_core.specs.declared.words.Why.{Why}
 use Rattle.cbor_core.specs.declared.heads.Size.{Size}
 use Rattle.cbor_core.specs.declared.heads.Size.TheVariants.{Within, One, Two, Four, Eight}
 use Rattle.cbor_core.specs.declared.heads.Head.{Head}
 use Rattle.cbor_core.specs.declared.heads.Stop.{Stop}
 use Rattle.cbor_core.specs.declared.tree.Item.{Item}
 use Rattle.cbor_core.specs.declared.tree.Node.{Node, Node-F, out-Node, roll-Node, roll-out-Node}
-use Rattle.cbor_core.specs.declared.tree.Node.TheVariants.{Uint, Nint, Bytes, Text, Array, Map, Tag, Simple, Float, rolls-Uint, rolls-Nint, rolls-Bytes, rolls-Text, rolls-Array, rolls-Map, rolls-Tag, rolls-Simple, rolls-Float, outs-Uint, outs-Nint, outs-Bytes, outs-Text, outs-Array, outs-Map, outs-Tag, outs-Simple, outs-Float}
-use Rattle.cbor_core.specs.Bytes.{IsBytes}
+use Rattle.cbor_core.specs.declared.tree.Node.TheVariants.{Bytes, Text, Array, Map, Tag, Float, rolls-Uint, rolls-Nint, rolls-Bytes, rolls-Text, rolls-Array, rolls-Map, rolls-Tag, rolls-Simple, rolls-Float}
 use Rattle.cbor_core.specs.Tree.{Layer}
-use Rattle.cbor_core.specs.Head.{information, limit, least, MayStand, IsHead, head, head_at, is_reserved}
-use Rattle.cbor_core.specs.Spells.{is_strict, SpellEach, SpellPairs, SpellsLayer, Headed, IsSimple, IsFloat}
-use Rattle.cbor_core.specs.Faults.{row_of, is_float, StuckAtHead, StuckAfter, StuckInPairs, StuckInside}
-use Rattle.cbor_core.specs.Reading.{◌>>=◌, Reader, judged, opened_by, opened, read_each, read_pairs, read_body, seven, IsOpen}
-use Rattle.cbor_core.proofs.RowLemmas.{IsOpen-from, row-none}
-use Rattle.cbor_core.proofs.StepLemmas.{IsBytes-after, bind_ok, bind_err, ok_is, err_is, ok_err, err_ok, chosen}
-use Rattle.cbor_core.proofs.HeadLemmas.{head-again, free_below, free_from, IsRead, head-read, may_fits, may_least, may_stand}
-use Rattle.cbor_core.proofs.PartLemmas.{ReadsAgain, ReadsSpelled, StopsStuck, StuckStops, each-again, each-spelled, each-stops, each-stuck}
-use Rattle.cbor_core.proofs.PairLemmas.{pairs-again, pairs-spelled, pairs-stop, pairs-stuck}
+use Rattle.cbor_core.specs.Head.{information, limit, MayStand, head, is_reserved}
+use Rattle.cbor_core.specs.Spells.{is_strict, SpellsLayer, Headed, IsFloat}
+use Rattle.cbor_core.specs.Faults.{is_float}
+use Rattle.cbor_core.specs.Reading.{◌>>=◌, Reader, judged, opened_by, opened, read_body, seven, IsOpen}
+use Rattle.cbor_core.proofs.RowLemmas.{row-none}
+use Rattle.cbor_core.proofs.HeadLemmas.{head-again, free_below, free_from, may_fits, may_least}
+use Rattle.cbor_core.proofs.PartLemmas.{ReadsAgain, each-again}
+use Rattle.cbor_core.proofs.PairLemmas.{pairs-again}
 
 -- a level of reading
 abbrev pub level : Grammar → ℕ → Reader → Reader

@@ -1,9 +1,8 @@
 -- What a level reads is spelled, and its faults.
-use Rattle.std.proofs.Common.{◌≡◌, ℕ, zero, suc, ◌+◌, ◌-◌, ◌*◌, ◌<◌, ◌≤◌, ◌⊎◌, Bool, true, false, cond, ◌==◌, nat_lt, List, [], ◌∷◌, ◌++◌, length, take, drop, Option, Some, None, Result, Ok, Err, refl, sym, ap, subst, ◌∙◌, inl, inr, arith, append_assoc, eq-eqb, ne_eqb, eqb-true, ltb-false}
-use Rattle.std.specs.Str.{IsUtf8, is_utf8}
-use Rattle.std.proofs.lemmas.Str.{IsUtf8-from_is_utf8, is_utf8-from_IsUtf8}
-use Rattle.std.proofs.lemmas.Bool.{eqb-false, and_left}
-use Rattle.std.proofs.lemmas.List.{append-nil, length-append, length-take, take_at, drop_at, take-append-drop}
+use Rattle.std.proofs.Common.{◌≡◌, ℕ, ◌+◌, ◌*◌, ◌<◌, ◌≤◌, ◌⊎◌, Bool, true, false, cond, ◌==◌, List, [], ◌++◌, length, take, drop, Option, Some, None, Result, Ok, Err, refl, sym, ap, subst, ◌∙◌, inl, inr, arith, append_assoc, eq-eqb, ne_eqb, eqb-true, ltb-false}
+use Rattle.std.proofs.lemmas.Str.{IsUtf8-from_is_utf8}
+use Rattle.std.proofs.lemmas.Bool.{eqb-false}
+use Rattle.std.proofs.lemmas.List.{append-nil, length-take, take-append-drop}
 use Rattle.cbor_core.specs.declared.words.Grammar.{Grammar}
 use Rattle.cbor_core.specs.declared.words.Grammar.TheVariants.{Strict, Wide}
 use Rattle.cbor_core.specs.declared.words.Why.{Why}
@@ -12,20 +11,20 @@ use Rattle.cbor_core.specs.declared.heads.Size.TheVariants.{Within, One, Two, Fo
 use Rattle.cbor_core.specs.declared.heads.Head.{Head}
 use Rattle.cbor_core.specs.declared.heads.Stop.{Stop}
 use Rattle.cbor_core.specs.declared.tree.Item.{Item}
-use Rattle.cbor_core.specs.declared.tree.Node.{Node, Node-F, out-Node, roll-Node, roll-out-Node}
-use Rattle.cbor_core.specs.declared.tree.Node.TheVariants.{Uint, Nint, Bytes, Text, Array, Map, Tag, Simple, Float, rolls-Uint, rolls-Nint, rolls-Bytes, rolls-Text, rolls-Array, rolls-Map, rolls-Tag, rolls-Simple, rolls-Float, outs-Uint, outs-Nint, outs-Bytes, outs-Text, outs-Array, outs-Map, outs-Tag, outs-Simple, outs-Float}
+use Rattle.cbor_core.specs.declared.tree.Node.{Node-F, out-Node}
+use Rattle.cbor_core.specs.declared.tree.Node.TheVariants.{Uint, Nint, Bytes, Text, Array, Map, Tag, outs-Uint, outs-Nint, outs-Bytes, outs-Text, outs-Array, outs-Map, outs-Tag, outs-Simple, outs-Float}
 use Rattle.cbor_core.specs.Bytes.{IsBytes}
 use Rattle.cbor_core.specs.Tree.{Layer}
-use Rattle.cbor_core.specs.Head.{information, limit, least, MayStand, IsHead, head, head_at, is_reserved}
-use Rattle.cbor_core.specs.Spells.{is_strict, SpellEach, SpellPairs, SpellsLayer, Headed, IsSimple, IsFloat}
+use Rattle.cbor_core.specs.Head.{information, limit, MayStand, IsHead, head, head_at, is_reserved}
+use Rattle.cbor_core.specs.Spells.{is_strict, SpellsLayer, Headed, IsFloat}
 use Rattle.cbor_core.specs.Faults.{row_of, is_float, StuckAtHead, StuckAfter, StuckInPairs, StuckInside}
 use Rattle.cbor_core.specs.Reading.{◌>>=◌, Reader, judged, opened_by, opened, read_each, read_pairs, read_body, read_leaf, leaf_read, seven, IsOpen}
 use Rattle.cbor_core.proofs.LevelLemmas.{level}
-use Rattle.cbor_core.proofs.RowLemmas.{IsOpen-from, row-none}
+use Rattle.cbor_core.proofs.RowLemmas.{IsOpen-from}
 use Rattle.cbor_core.proofs.StepLemmas.{IsBytes-after, bind_ok, bind_err, ok_is, err_is, ok_err, err_ok, chosen}
-use Rattle.cbor_core.proofs.HeadLemmas.{head-again, free_below, free_from, IsRead, head-read, may_fits, may_least, may_stand}
-use Rattle.cbor_core.proofs.PartLemmas.{ReadsAgain, ReadsSpelled, StopsStuck, StuckStops, each-again, each-spelled, each-stops, each-stuck}
-use Rattle.cbor_core.proofs.PairLemmas.{pairs-again, pairs-spelled, pairs-stop, pairs-stuck}
+use Rattle.cbor_core.proofs.HeadLemmas.{IsRead, head-read, may_stand}
+use Rattle.cbor_core.proofs.PartLemmas.{ReadsAgain, ReadsSpelled, StopsStuck, StuckStops, each-spelled, each-stops, each-stuck}
+use Rattle.cbor_core.proofs.PairLemmas.{pairs-spelled, pairs-stop, pairs-stuck}
 
 -- ---- an open head
 
@@ -180,11 +179,11 @@ module _ (g : Grammar) (room : ℕ) (Part : Item → List ℕ → Type 0) (part 
             | inr r ↦ elim (chosen (h.major == 3) x3 x7 y r.1) [
               | inl s ↦ subst (λ (z : Read). Body h bytes z) s.1 (text_spelled h bytes o (eqb-true h.major 3 s.0))
               | inr s ↦
-                let n0 = eqb-false h.major 0 p.0 in
-                let n1 = eqb-false h.major 1 q.0 in
-                let n2 = eqb-false h.major 2 r.0 in
-                let n3 = eqb-false h.major 3 s.0 in
-                subst (λ (z : Read). Body h bytes z) s.1 (seven_spelled h bytes o free (last (omega (arith, n0, n1, n2, n3))))
+                  let n0 = eqb-false h.major 0 p.0 in
+                  let n1 = eqb-false h.major 1 q.0 in
+                  let n2 = eqb-false h.major 2 r.0 in
+                  let n3 = eqb-false h.major 3 s.0 in
+                  subst (λ (z : Read). Body h bytes z) s.1 (seven_spelled h bytes o free (last (omega (arith, n0, n1, n2, n3))))
             ]
           ]
         ]
@@ -205,11 +204,11 @@ module _ (g : Grammar) (room : ℕ) (Part : Item → List ℕ → Type 0) (part 
           | inr q ↦ elim (chosen (h.major == 6) x6 x7 (Ok y) q.1) [
             | inl r ↦ tag_spelled spelled h bytes y fits o (eqb-true h.major 6 r.0) r.1
             | inr r ↦
-              let n4 = eqb-false h.major 4 p.0 in
-              let n5 = eqb-false h.major 5 q.0 in
-              let n6 = eqb-false h.major 6 r.0 in
-              let small : h.major < 8 = o.major in
-              leaf_spelled h bytes y o free (λ le. omega (arith, n4, n5, n6)) (ok_is (read_leaf h bytes) y r.1)
+                let n4 = eqb-false h.major 4 p.0 in
+                let n5 = eqb-false h.major 5 q.0 in
+                let n6 = eqb-false h.major 6 r.0 in
+                let small : h.major < 8 = o.major in
+                leaf_spelled h bytes y o free (λ le. omega (arith, n4, n5, n6)) (ok_is (read_leaf h bytes) y r.1)
           ]
         ]
       ]
@@ -266,11 +265,11 @@ module _ (g : Grammar) (room : ℕ) (Part : Item → List ℕ → Type 0) (part 
         elim (bind_err (opened g room bytes) (λ x. read_body g part x.0 x.1) stop e) [
           | inl now ↦ inl (opened_err g room (length bytes) (head_at bytes) stop now)
           | inr b ↦
-            let h = b.0.0 in
-            let after = b.0.1 in
-            let ok = opened_ok g room (length bytes) (head_at bytes) (h, after) b.1 in
-            let read = head-read bytes h after fits ok.0 in
-            inr (h, after, ok.0, ok.1, body_stops spelled stops h after stop (IsBytes-after bytes (head h.major h.size h.argument) after fits read.parts) b.2)
+              let h = b.0.0 in
+              let after = b.0.1 in
+              let ok = opened_ok g room (length bytes) (head_at bytes) (h, after) b.1 in
+              let read = head-read bytes h after fits ok.0 in
+              inr (h, after, ok.0, ok.1, body_stops spelled stops h after stop (IsBytes-after bytes (head h.major h.size h.argument) after fits read.parts) b.2)
         ]
 
     body_4 : (h : Head) (bytes : List ℕ) → h.major ≡ 4 → read_body g part h bytes ≡ (read_each part h.argument [] bytes >>= λ x. Ok (record { node = Array x.0 }, x.1))

@@ -10,3 +10,15 @@ pub mod LevelLemmas
 pub mod LevelReads
 pub mod ReadLaws
 pub mod DecodeLaws
+pub mod SpellParts
+pub mod CompareLemmas
+pub mod LengthLemmas
+pub mod CompareSteps
+pub mod LengthSteps
+pub mod WriteSteps
+pub mod StrictLemmas
+pub mod StrictLevels
+pub mod EncodeLaws
+pub mod KeyLemmas
+pub mod KeyLaws
+pub mod TrailLaws

@@ -1,6 +1,6 @@
 -- The bytewise order, one byte at a time.
-use Rattle.std.proofs.Common.{◌≡◌, ℕ, suc, ◌+◌, ◌-◌, ◌<◌, ◌≤◌, ◌⊎◌, inl, inr, Bool, true, false, ◌&&◌, ◌||◌, ◌==◌, List, [], ◌∷◌, length, drop, get_or, refl, sym, ◌∙◌, arith, nat_lt, ne_eqb, eq-eqb, le-ltb, lt-ltb}
-use Rattle.std.proofs.lemmas.List.{drop_more, drop_all, length-drop}
+use Rattle.std.proofs.Common.{◌≡◌, ℕ, suc, ◌+◌, ◌-◌, ◌<◌, ◌≤◌, ◌⊎◌, inl, inr, Bool, true, false, ◌||◌, List, [], ◌∷◌, ◌++◌, length, drop, get_or, refl, sym, ◌∙◌, arith, nat_lt, ne_eqb, eq-eqb, le-ltb, lt-ltb}
+use Rattle.std.proofs.lemmas.List.{drop_more, length-drop}
 use Rattle.std.proofs.lemmas.Bool.{cases_lt}
 use Rattle.cbor_core.specs.Bytes.{is_below}
 
@@ -37,3 +37,23 @@ pub below_end : (a b : List ℕ) (i : ℕ) → i ≤ length a → i ≤ length b
 below_end a b i la lb h =
     let ends : (length (drop i a) ≡ 0) ⊎ (length (drop i b) ≡ 0) = elim h [ inl x ↦ inl (omega (arith, length-drop i a)) | inr x ↦ inr (omega (arith, length-drop i b)) ] in
     lengths (drop i a) (drop i b) ends ∙ rw (length-drop i a, length-drop i b) (minus_lt (length a) (length b) i la lb)
+
+pub below-less : (x y : ℕ) (xs ys : List ℕ) → x < y → is_below (x ∷ xs) (y ∷ ys) ≡ true
+below-less x y xs ys lt = below-differs x y xs ys (λ e. absurd (omega arith)) ∙ lt-ltb x y lt
+
+pub below-more : (x y : ℕ) (xs ys : List ℕ) → y < x → is_below (x ∷ xs) (y ∷ ys) ≡ false
+below-more x y xs ys lt = below-differs x y xs ys (λ e. absurd (omega arith)) ∙ le-ltb x y (omega arith)
+
+pub below-itself : (xs : List ℕ) → is_below xs xs ≡ false
+unfolding is_below
+below-itself [] = refl
+below-itself (x ∷ xs) = below-same x xs xs ∙ below-itself xs
+
+pub below-behind : (front xs ys : List ℕ) → is_below (front ++ xs) (front ++ ys) ≡ is_below xs ys
+below-behind [] xs ys = refl
+below-behind (x ∷ front) xs ys = below-same x (front ++ xs) (front ++ ys) ∙ below-behind front xs ys
+
+-- nothing is below a first byte
+pub nil-below : (x : ℕ) (xs : List ℕ) → is_below [] (x ∷ xs) ≡ true
+unfolding is_below
+nil-below x xs = refl

@@ -1,6 +1,6 @@
 -- The pairs of a map, one after the other.
-use Rattle.std.proofs.Common.{◌≡◌, ℕ, zero, suc, ◌+◌, ◌-◌, ◌<◌, ◌≤◌, ◌⊎◌, List, [], ◌∷◌, ◌++◌, length, take, drop, Option, Some, None, Result, Ok, Err, refl, sym, ap, subst, ◌∙◌, inl, inr, arith, append_assoc}
-use Rattle.std.proofs.lemmas.List.{append-nil, length-append}
+use Rattle.std.proofs.Common.{◌≡◌, ℕ, zero, suc, List, [], ◌∷◌, ◌++◌, length, Some, None, Result, Ok, Err, refl, sym, ap, subst, ◌∙◌, inl, inr, append_assoc}
+use Rattle.std.proofs.lemmas.List.{append-nil}
 use Rattle.cbor_core.specs.declared.words.Grammar.{Grammar}
 use Rattle.cbor_core.specs.declared.words.Why.{Why}
 use Rattle.cbor_core.specs.declared.heads.Stop.{Stop}
@@ -9,7 +9,7 @@ use Rattle.cbor_core.specs.Bytes.{IsBytes}
 use Rattle.cbor_core.specs.Spells.{key_row, SpellPairs}
 use Rattle.cbor_core.specs.Faults.{StuckAtPair, StuckInPairs}
 use Rattle.cbor_core.specs.Reading.{◌>>=◌, Reader, judged, front_of, read_pair, read_pairs}
-use Rattle.cbor_core.proofs.StepLemmas.{IsBytes-after, bind_ok, bind_err, judged_ok, judged_err, ok_is, err_is, ok_err, err_ok, front-is}
+use Rattle.cbor_core.proofs.StepLemmas.{IsBytes-after, bind_ok, bind_err, judged_ok, judged_err, ok_is, ok_err, front-is}
 use Rattle.cbor_core.proofs.PartLemmas.{ReadsAgain, ReadsSpelled, StopsStuck, StuckStops}
 
 abbrev Pair : Type 0
@@ -97,18 +97,18 @@ module _ (g : Grammar) (Part : Item → List ℕ → Type 0) (part : Reader) whe
         elim (bind_err (part bytes) (row_read earlier last bytes) stop e) [
           | inl now ↦ inl (stops bytes stop fits now)
           | inr b ↦
-            let k = b.0 in
-            let s = spelled bytes k.0 k.1 fits b.1 in
-            let front = front_at bytes s.0 k.1 s.2 in
-            elim (judged_err (length bytes) (key_row g earlier last k.0 (front_of bytes k.1)) k (value_read bytes) stop b.2) [
-              | inl bad ↦ inr (k.0, s.0, k.1, s.1, s.2, inl (subst (λ (t : List ℕ). key_row g earlier last k.0 t ≡ Some stop.why) front bad.0, bad.1))
-              | inr good ↦
-                let row = subst (λ (t : List ℕ). key_row g earlier last k.0 t ≡ None) front good.0 in
-                elim (bind_err (part k.1) (λ v. Ok ((k.0, v.0), (front_of bytes k.1, v.1))) stop good.1) [
-                  | inl now ↦ inr (k.0, s.0, k.1, s.1, s.2, inr (row, stops k.1 stop (IsBytes-after bytes s.0 k.1 fits s.2) now))
-                  | inr c ↦ absurd (ok_err _ _ c.2)
-                ]
-            ]
+              let k = b.0 in
+              let s = spelled bytes k.0 k.1 fits b.1 in
+              let front = front_at bytes s.0 k.1 s.2 in
+              elim (judged_err (length bytes) (key_row g earlier last k.0 (front_of bytes k.1)) k (value_read bytes) stop b.2) [
+                | inl bad ↦ inr (k.0, s.0, k.1, s.1, s.2, inl (subst (λ (t : List ℕ). key_row g earlier last k.0 t ≡ Some stop.why) front bad.0, bad.1))
+                | inr good ↦
+                    let row = subst (λ (t : List ℕ). key_row g earlier last k.0 t ≡ None) front good.0 in
+                    elim (bind_err (part k.1) (λ v. Ok ((k.0, v.0), (front_of bytes k.1, v.1))) stop good.1) [
+                      | inl now ↦ inr (k.0, s.0, k.1, s.1, s.2, inr (row, stops k.1 stop (IsBytes-after bytes s.0 k.1 fits s.2) now))
+                      | inr c ↦ absurd (ok_err _ _ c.2)
+                    ]
+              ]
         ]
 
     pub pairs-stop : ReadsSpelled Part part → StopsStuck Inner part → (count : ℕ) (earlier : List Pair) (last bytes : List ℕ) (stop : Stop) → IsBytes bytes → read_pairs g part count earlier last bytes ≡ Err stop
@@ -119,12 +119,12 @@ module _ (g : Grammar) (Part : Item → List ℕ → Type 0) (part : Reader) whe
         elim (bind_err (read_pair g part earlier last bytes) (pairs_read count earlier) stop e) [
           | inl now ↦ inl (pair-stops spelled stops earlier last bytes stop fits now)
           | inr b ↦
-            let y = b.0 in
-            let s = pair-spelled spelled earlier last bytes y fits b.1 in
-            let value = s.0 in
-            let after : bytes ≡ (y.1.0 ++ value) ++ y.1.1 = s.4 ∙ sym (append_assoc y.1.0 value y.1.1) in
-            let more = pairs-stop spelled stops count (earlier ++ y.0 ∷ []) y.1.0 y.1.1 stop (IsBytes-after bytes (y.1.0 ++ value) y.1.1 fits after) b.2 in
-            inr (y.0, y.1.0, value, y.1.1, s.1, s.2, s.3, s.4, more)
+              let y = b.0 in
+              let s = pair-spelled spelled earlier last bytes y fits b.1 in
+              let value = s.0 in
+              let after : bytes ≡ (y.1.0 ++ value) ++ y.1.1 = s.4 ∙ sym (append_assoc y.1.0 value y.1.1) in
+              let more = pairs-stop spelled stops count (earlier ++ y.0 ∷ []) y.1.0 y.1.1 stop (IsBytes-after bytes (y.1.0 ++ value) y.1.1 fits after) b.2 in
+              inr (y.0, y.1.0, value, y.1.1, s.1, s.2, s.3, s.4, more)
         ]
 
     pub pair-stuck : ReadsAgain Part part → StuckStops Inner part → (earlier : List Pair) (last bytes : List ℕ) (left : ℕ) (why : Why) → StuckAtPair g Part Inner earlier last bytes left why
@@ -135,11 +135,11 @@ module _ (g : Grammar) (Part : Item → List ℕ → Type 0) (part : Reader) whe
         let one : read_pair g part earlier last bytes ≡ row_read earlier last bytes (item, rest) = ap (λ r. r >>= row_read earlier last bytes) (ap part e ∙ again item key rest p) in
         elim w [
           | inl (row, l) ↦
-            let bad : key_row g earlier last item (front_of bytes rest) ≡ Some why = subst (λ (t : List ℕ). key_row g earlier last item t ≡ Some why) (sym front) row in
-            one ∙ ap (λ o. judged (length bytes) o (item, rest) >>= value_read bytes) bad ∙ ap (λ (n : ℕ). Err (record { left = n; why = why })) (sym l)
+              let bad : key_row g earlier last item (front_of bytes rest) ≡ Some why = subst (λ (t : List ℕ). key_row g earlier last item t ≡ Some why) (sym front) row in
+              one ∙ ap (λ o. judged (length bytes) o (item, rest) >>= value_read bytes) bad ∙ ap (λ (n : ℕ). Err (record { left = n; why = why })) (sym l)
           | inr (row, inner) ↦
-            let good : key_row g earlier last item (front_of bytes rest) ≡ None = subst (λ (t : List ℕ). key_row g earlier last item t ≡ None) (sym front) row in
-            one ∙ ap (λ o. judged (length bytes) o (item, rest) >>= value_read bytes) good ∙ ap (λ r. r >>= λ v. Ok ((item, v.0), (front_of bytes rest, v.1))) (stuck rest left why inner)
+              let good : key_row g earlier last item (front_of bytes rest) ≡ None = subst (λ (t : List ℕ). key_row g earlier last item t ≡ None) (sym front) row in
+              one ∙ ap (λ o. judged (length bytes) o (item, rest) >>= value_read bytes) good ∙ ap (λ r. r >>= λ v. Ok ((item, v.0), (front_of bytes rest, v.1))) (stuck rest left why inner)
         ]
 
     pub pairs-stuck : ReadsAgain Part part → StuckStops Inner part → (count : ℕ) (earlier : List Pair) (last bytes : List ℕ) (left : ℕ) (why : Why) → StuckInPairs g Part Inner count earlier last bytes left why

@@ -1,15 +1,14 @@
 -- The parts of a container, one after the other.
-use Rattle.std.proofs.Common.{◌≡◌, ℕ, zero, suc, ◌+◌, ◌-◌, ◌<◌, ◌≤◌, ◌⊎◌, List, [], ◌∷◌, ◌++◌, length, take, drop, Option, Some, None, Result, Ok, Err, refl, sym, ap, subst, ◌∙◌, inl, inr, arith, append_assoc}
-use Rattle.std.proofs.lemmas.List.{append-nil, length-append}
-use Rattle.cbor_core.specs.declared.words.Grammar.{Grammar}
+use Rattle.std.proofs.Common.{◌≡◌, ℕ, zero, suc, ◌+◌, ◌-◌, ◌<◌, List, [], ◌∷◌, ◌++◌, length, Ok, Err, refl, sym, ap, ◌∙◌, inl, inr, arith, append_assoc}
+use Rattle.std.proofs.lemmas.List.{append-nil}
 use Rattle.cbor_core.specs.declared.words.Why.{Why}
 use Rattle.cbor_core.specs.declared.heads.Stop.{Stop}
 use Rattle.cbor_core.specs.declared.tree.Item.{Item}
 use Rattle.cbor_core.specs.Bytes.{IsBytes}
-use Rattle.cbor_core.specs.Spells.{key_row, SpellEach, SpellPairs}
-use Rattle.cbor_core.specs.Faults.{StuckAfter, StuckAtPair, StuckInPairs}
-use Rattle.cbor_core.specs.Reading.{◌>>=◌, Reader, judged, front_of, read_each, read_pair, read_pairs}
-use Rattle.cbor_core.proofs.StepLemmas.{IsBytes-after, bind_ok, bind_err, ok_is, err_is, ok_err, err_ok, front-is}
+use Rattle.cbor_core.specs.Spells.{SpellEach}
+use Rattle.cbor_core.specs.Faults.{StuckAfter}
+use Rattle.cbor_core.specs.Reading.{Reader, read_each}
+use Rattle.cbor_core.proofs.StepLemmas.{IsBytes-after, bind_ok, bind_err, ok_is, ok_err}
 
 -- what is spelled is read again; what is read is spelled; a fault that is read is one; a fault that is one is read
 abbrev pub ReadsAgain : (Item → List ℕ → Type 0) → Reader → Type 0
@@ -67,10 +66,10 @@ module _ (Part : Item → List ℕ → Type 0) (part : Reader) where
         elim (bind_err (part bytes) (λ x. read_each part count (front ++ x.0 ∷ []) x.1) stop e) [
           | inl now ↦ ([], [], bytes, omega arith, refl, stops bytes stop fits now, refl)
           | inr b ↦
-            let s = spelled bytes b.0.0 b.0.1 fits b.1 in
-            let more = each-stops spelled stops count (front ++ b.0.0 ∷ []) b.0.1 stop (IsBytes-after bytes s.0 b.0.1 fits s.2) b.2 in
-            let lt : length more.0 < count = more.3 in
-            (b.0.0 ∷ more.0, s.0 ++ more.1, more.2, omega arith, (s.0, more.1, s.1, more.4, refl), more.5, s.2 ∙ ap (λ (t : List ℕ). s.0 ++ t) more.6 ∙ sym (append_assoc s.0 more.1 more.2))
+              let s = spelled bytes b.0.0 b.0.1 fits b.1 in
+              let more = each-stops spelled stops count (front ++ b.0.0 ∷ []) b.0.1 stop (IsBytes-after bytes s.0 b.0.1 fits s.2) b.2 in
+              let lt : length more.0 < count = more.3 in
+              (b.0.0 ∷ more.0, s.0 ++ more.1, more.2, omega arith, (s.0, more.1, s.1, more.4, refl), more.5, s.2 ∙ ap (λ (t : List ℕ). s.0 ++ t) more.6 ∙ sym (append_assoc s.0 more.1 more.2))
         ]
 
     pub each-stuck : ReadsAgain Part part → StuckStops Inner part → (count : ℕ) (bytes : List ℕ) (left : ℕ) (why : Why) → StuckAfter Part Inner count bytes left why

@@ -1,21 +1,19 @@
 -- Reading gives what is spelled, and stops where the bytes are stuck: at every depth.
-use Rattle.std.proofs.Common.{◌≡◌, ℕ, zero, suc, ◌+◌, ◌-◌, ◌<◌, ◌≤◌, ◌⊎◌, List, [], ◌∷◌, ◌++◌, length, take, drop, Result, Ok, Err, refl, sym, ap, subst, ◌∙◌, inl, inr, arith, append_assoc}
-use Rattle.std.proofs.lemmas.List.{append-nil, length-append, append_cancel_right}
+use Rattle.std.proofs.Common.{◌≡◌, ℕ, zero, suc, ◌<◌, List, length, Err, sym, ap, inl, inr, arith}
 use Rattle.cbor_core.specs.declared.words.Grammar.{Grammar}
 use Rattle.cbor_core.specs.declared.words.Why.{Why}
 use Rattle.cbor_core.specs.declared.words.Why.TheVariants.{TooDeep}
 use Rattle.cbor_core.specs.declared.heads.Stop.{Stop}
 use Rattle.cbor_core.specs.declared.tree.Item.{Item}
-use Rattle.cbor_core.specs.declared.tree.Node.{out-Node}
 use Rattle.cbor_core.specs.Bytes.{IsBytes}
-use Rattle.cbor_core.specs.Spells.{SpellsLayer, SpellsIn}
-use Rattle.cbor_core.specs.Faults.{StuckAtHead, StuckInside, Stuck}
-use Rattle.cbor_core.specs.Reading.{◌>>=◌, Reader, no_part, read_in, opened}
+use Rattle.cbor_core.specs.Spells.{SpellsIn}
+use Rattle.cbor_core.specs.Faults.{StuckInside, Stuck}
+use Rattle.cbor_core.specs.Reading.{no_part, read_in}
 use Rattle.cbor_core.proofs.RowLemmas.{IsOpen-from}
-use Rattle.cbor_core.proofs.StepLemmas.{ok_is, ok_err, err_ok, err_is}
+use Rattle.cbor_core.proofs.StepLemmas.{err_ok, err_is}
 use Rattle.cbor_core.proofs.HeadLemmas.{head-read}
 use Rattle.cbor_core.proofs.PartLemmas.{ReadsAgain, ReadsSpelled, StopsStuck, StuckStops}
-use Rattle.cbor_core.proofs.LevelLemmas.{level, level-again}
+use Rattle.cbor_core.proofs.LevelLemmas.{level-again}
 use Rattle.cbor_core.proofs.LevelReads.{level-spelled, level-stops, level-stuck}
 
 -- no part where no container may be opened

@@ -1,9 +1,8 @@
 -- Tables of tests in order, and the rows for a head.
-use Rattle.std.proofs.Common.{◌≡◌, ℕ, ◌<◌, ◌≤◌, Bool, true, false, cond, not, ◌&&◌, ◌||◌, ◌==◌, List, [], ◌∷◌, length, take, Option, Some, None, ◌⊎◌, refl, inl, inr, arith, nat_lt, nat_eq, eq-eqb, ne_eqb, lt-ltb, le-ltb, ltb-false, ltb-true}
-use Rattle.std.proofs.lemmas.Bool.{cases_eq, cases_Bool, not-false, eqb-false, eqb-true, or_left, or_right, or_from, or_cases, and_left, and_right}
+use Rattle.std.proofs.Common.{◌≡◌, ℕ, ◌<◌, ◌≤◌, Bool, true, false, cond, not, ◌&&◌, ◌||◌, ◌==◌, List, [], ◌∷◌, length, take, Option, Some, None, ◌⊎◌, refl, inl, inr, arith, nat_lt, eq-eqb, ne_eqb, lt-ltb, le-ltb, ltb-false, ltb-true}
+use Rattle.std.proofs.lemmas.Bool.{cases_eq, cases_Bool, not-false, eqb-false, eqb-true, or_left, or_right, or_from, and_left, and_right}
 use Rattle.std.specs.Str.{is_utf8}
 use Rattle.cbor_core.specs.declared.words.Grammar.{Grammar}
-use Rattle.cbor_core.specs.declared.words.Why.{Why}
 use Rattle.cbor_core.specs.declared.heads.Head.{Head}
 use Rattle.cbor_core.specs.Rows.{first_row, NoRow}
 use Rattle.cbor_core.specs.Head.{limit, least}
@@ -81,12 +80,25 @@ strict_or g x y h =
 -- an open head has no row
 pub row-none : (g : Grammar) (room : ℕ) (h : Head) (rest : List ℕ) → IsOpen g room h rest → row_of g room h rest ≡ None
 row-none g room h rest o =
-    no_row (rows g room h rest)
-    ( strict_or g (nat_lt h.major 7) (nat_lt h.argument (least h.size)) (λ s lt. le-ltb h.argument (least h.size) (o.shortest s (ltb-true h.major 7 lt)))
-    , ( strict_or g (h.major == 7) (is_float h.size) (λ s is. o.no_float s (eqb-true h.major 7 is))
-    , ( elim (is_string_cases h.major) [ inl off ↦ and_left (is_string h.major) (nat_lt 4198400 h.argument) off | inr p ↦ and_right (is_string h.major) (nat_lt 4198400 h.argument) (le-ltb 4198400 h.argument (o.string_limit p.0 p.1)) ]
-    , ( elim (is_list_cases h.major) [ inl off ↦ and_left (is_list h.major) (nat_lt 4096 h.argument) off | inr p ↦ and_right (is_list h.major) (nat_lt 4096 h.argument) (le-ltb 4096 h.argument (o.list_limit p.0 p.1)) ]
-    , ( elim (is_container_cases h.major) [ inl off ↦ and_left (is_list h.major || h.major == 6) (room == 0) off | inr p ↦ and_right (is_list h.major || h.major == 6) (room == 0) (let pos : 0 < room = o.room_left p.0 p.1 in ne_eqb room 0 (λ e. absurd (omega arith))) ]
-    , ( elim (is_string_cases h.major) [ inl off ↦ and_left (is_string h.major) (nat_lt (length rest) h.argument) off | inr p ↦ and_right (is_string h.major) (nat_lt (length rest) h.argument) (le-ltb (length rest) h.argument (o.content p.0 p.1)) ]
-    , ( elim (cases_eq h.major 3) [ inl is ↦ and_right (h.major == 3) (not (is_utf8 (take h.argument rest))) (rw (o.text is)) | inr ne ↦ and_left (h.major == 3) (not (is_utf8 (take h.argument rest))) (ne_eqb h.major 3 ne) ]
-    , tt)))))))
+    no_row (rows g room h rest) (
+      strict_or g (nat_lt h.major 7) (nat_lt h.argument (least h.size)) (λ s lt. le-ltb h.argument (least h.size) (o.shortest s (ltb-true h.major 7 lt))),
+      (
+        strict_or g (h.major == 7) (is_float h.size) (λ s is. o.no_float s (eqb-true h.major 7 is)),
+        (
+          elim (is_string_cases h.major) [ inl off ↦ and_left (is_string h.major) (nat_lt 4198400 h.argument) off | inr p ↦ and_right (is_string h.major) (nat_lt 4198400 h.argument) (le-ltb 4198400 h.argument (o.string_limit p.0 p.1)) ],
+          (
+            elim (is_list_cases h.major) [ inl off ↦ and_left (is_list h.major) (nat_lt 4096 h.argument) off | inr p ↦ and_right (is_list h.major) (nat_lt 4096 h.argument) (le-ltb 4096 h.argument (o.list_limit p.0 p.1)) ],
+            (
+              elim (is_container_cases h.major) [ inl off ↦ and_left (is_list h.major || h.major == 6) (room == 0) off | inr p ↦ and_right (is_list h.major || h.major == 6) (room == 0) (let pos : 0 < room = o.room_left p.0 p.1 in ne_eqb room 0 (λ e. absurd (omega arith))) ],
+              (
+                elim (is_string_cases h.major) [ inl off ↦ and_left (is_string h.major) (nat_lt (length rest) h.argument) off | inr p ↦ and_right (is_string h.major) (nat_lt (length rest) h.argument) (le-ltb (length rest) h.argument (o.content p.0 p.1)) ],
+                (
+                  elim (cases_eq h.major 3) [ inl is ↦ and_right (h.major == 3) (not (is_utf8 (take h.argument rest))) (rw (o.text is)) | inr ne ↦ and_left (h.major == 3) (not (is_utf8 (take h.argument rest))) (ne_eqb h.major 3 ne) ],
+                  tt,
+                ),
+              ),
+            ),
+          ),
+        ),
+      ),
+    )

@@ -1,20 +1,18 @@
 -- Steps that may fail, choices, and lists of bytes.
-use Rattle.std.proofs.Common.{◌≡◌, ℕ, zero, suc, ◌+◌, ◌-◌, ◌<◌, ◌≤◌, ◌⊎◌, Bool, true, false, cond, List, [], ◌∷◌, ◌++◌, length, get_or, take, drop, Option, Some, None, Result, Ok, Err, refl, sym, ap, subst, ◌∙◌, inl, inr, arith, append_assoc}
+use Rattle.std.proofs.Common.{◌≡◌, ℕ, suc, ◌+◌, ◌-◌, ◌<◌, ◌⊎◌, Bool, true, false, cond, List, ◌∷◌, ◌++◌, length, get_or, Option, Some, None, Result, Ok, Err, refl, sym, ap, subst, ◌∙◌, inl, inr, arith}
 use Rattle.std.proofs.lemmas.Bool.{cases_lt}
-use Rattle.std.proofs.lemmas.List.{take_at, drop_at, take-append-drop, length-append, length-take, length-drop, get_or-drop, get_or-take, get_or_past, get_or-append-add}
+use Rattle.std.proofs.lemmas.List.{take_at, length-append, get_or_past, get_or_append_left, get_or-append-add}
 use Rattle.cbor_core.specs.declared.words.Why.{Why}
 use Rattle.cbor_core.specs.declared.heads.Stop.{Stop}
 use Rattle.cbor_core.specs.Bytes.{IsBytes}
 use Rattle.cbor_core.specs.Reading.{◌>>=◌, judged, front_of}
 
-pub IsBytes-drop : (n : ℕ) (bytes : List ℕ) → IsBytes bytes → IsBytes (drop n bytes)
-IsBytes-drop n bytes h i = rw get_or-drop (h (n + i))
-
-pub IsBytes-take : (n : ℕ) (bytes : List ℕ) → IsBytes bytes → IsBytes (take n bytes)
-IsBytes-take n bytes h i =
-    elim (cases_lt i n) [
-      | inl lt ↦ rw (get_or-take n bytes i 0 lt) (h i)
-      | inr le ↦ rw (get_or_past (take n bytes) i 0 (omega (arith, length-take n bytes))) (omega arith)
+-- a front of bytes: within it each place has the byte of the whole, and past it there is 0
+pub IsBytes-front : (bytes text rest : List ℕ) → IsBytes bytes → bytes ≡ text ++ rest → IsBytes text
+IsBytes-front bytes text rest h e =
+    λ i. elim (cases_lt i (length text)) [
+      | inl within ↦ subst (λ (n : ℕ). n < 256) (ap (λ (whole : List ℕ). get_or whole i 0) e ∙ get_or_append_left text rest 0 i within) (h i)
+      | inr past ↦ rw (get_or_past text i 0 past) (omega arith)
     ]
 
 pub IsBytes-tail : (b : ℕ) (bytes : List ℕ) → IsBytes (b ∷ bytes) → IsBytes bytes
@@ -24,10 +22,10 @@ IsBytes-tail b bytes h i = h (suc i)
 pub IsBytes-after : (bytes text rest : List ℕ) → IsBytes bytes → bytes ≡ text ++ rest → IsBytes rest
 IsBytes-after bytes text rest h e i = subst (λ (n : ℕ). n < 256) (ap (λ (b : List ℕ). get_or b (length text + i) 0) e ∙ get_or-append-add text rest i 0) (h (length text + i))
 
--- the value of a step that did not fail
-pub bind_ok : {A B E : Type 0} (r : Result A E) (f : A → Result B E) (y : B) → (r >>= f) ≡ Ok y → (x : A) × (r ≡ Ok x) × (f x ≡ Ok y)
-bind_ok (Ok x) f y e = (x, refl, e)
-bind_ok (Err d) f y e = absurd cc
+-- two steps that both went well: what the first one gave, and the second one from there
+pub bind_ok : {A B E : Type 0} (first : Result A E) (then : A → Result B E) (last : B) → (first >>= then) ≡ Ok last → (mid : A) × (first ≡ Ok mid) × (then mid ≡ Ok last)
+bind_ok (Err stop) then last e = absurd cc
+bind_ok (Ok mid) then last e = (mid, refl, e)
 
 -- a step that failed, or the one after it did
 pub bind_err : {A B E : Type 0} (r : Result A E) (f : A → Result B E) (d : E) → (r >>= f) ≡ Err d → (r ≡ Err d) ⊎ ((x : A) × (r ≡ Ok x) × (f x ≡ Err d))

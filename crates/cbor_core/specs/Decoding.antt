@@ -1,7 +1,7 @@
 -- What decoding answers, and the laws of the two grammars.
-use Rattle.std.specs.Prelude.{◌≡◌, ℕ, ◌<◌, ◌≤◌, ◌⊎◌, List, [], ◌∷◌, ◌++◌, length, take, Option, Some, None, Result, Ok, Err}
+use Rattle.std.specs.Prelude.{◌≡◌, ◌≢◌, ◌↔◌, true, Any, ℕ, ◌<◌, ◌≤◌, ◌⊎◌, List, [], ◌∷◌, ◌++◌, length, take, Option, Some, None, Result, Ok, Err}
 use Rattle.cbor_core.specs.declared.words.Grammar.{Grammar}
-use Rattle.cbor_core.specs.declared.words.Grammar.TheVariants.{Strict, Wide}
+use Rattle.cbor_core.specs.declared.words.Grammar.TheVariants.{Strict}
 use Rattle.cbor_core.specs.declared.words.Why.{Why}
 use Rattle.cbor_core.specs.declared.words.Why.TheVariants.{Trailing}
 use Rattle.cbor_core.specs.declared.words.Fault.{Fault}
@@ -10,6 +10,7 @@ use Rattle.cbor_core.specs.declared.words.DecodeStop.TheVariants.{Fault as AtFau
 use Rattle.cbor_core.specs.declared.heads.Stop.{Stop}
 use Rattle.cbor_core.specs.declared.tree.Item.{Item}
 use Rattle.cbor_core.specs.Bytes.{IsBytes}
+use Rattle.cbor_core.specs.Tree.{same, is_key}
 use Rattle.cbor_core.specs.Spells.{Spells}
 use Rattle.cbor_core.specs.Faults.{FaultIn}
 use Rattle.cbor_core.specs.Reading.{read_in}
@@ -58,6 +59,10 @@ NotBoth = (g : Grammar) (bytes : List ℕ) → HasPrefix g bytes → HasFault g 
 abbrev pub OneFault : Type 0
 OneFault = (g : Grammar) (bytes : List ℕ) (at other_at : ℕ) (why other_why : Why) → FaultIn g 0 bytes at why → FaultIn g 0 bytes other_at other_why → (at ≡ other_at) × (why ≡ other_why)
 
+-- what is spelled is decoded to the item, whatever follows, unless memory runs out
+abbrev pub RoundTrip : Type 0
+RoundTrip = (g : Grammar) (item : Item) (text rest : List ℕ) (answer : Result (Item × ℕ) DecodeStop) → Spells g item text → Decoded g (text ++ rest) answer → (answer ≡ Ok (item, length text)) ⊎ (answer ≡ Err OutOfMemory)
+
 -- what was read and left nothing
 abbrev pub whole : Result (Item × List ℕ) Stop → Option Item
 whole (Ok (item, [])) = Some item
@@ -75,3 +80,15 @@ ItemIsSpelled = (bytes : List ℕ) (item : Item) → IsBytes bytes → strict_it
 -- what is spelled it gives
 abbrev pub SpelledIsItem : Type 0
 SpelledIsItem = (bytes : List ℕ) (item : Item) → Spells Strict item bytes → strict_item bytes ≡ Some item
+
+-- the test of two items holds exactly where they are equal
+abbrev pub SameIsEqual : Type 0
+SameIsEqual = (a b : Item) → (same a b ≡ true) ↔ (a ≡ b)
+
+-- the test of a key holds exactly where a pair has an equal item as its key
+abbrev pub KeyIsAmong : Type 0
+KeyIsAmong = (pairs : List (Item × Item)) (item : Item) → (is_key pairs item ≡ true) ↔ Any (λ pair. pair.0 ≡ item) pairs
+
+-- that something follows is no fault of an item
+abbrev pub NeverTrailing : Type 0
+NeverTrailing = (g : Grammar) (depth : ℕ) (bytes : List ℕ) (at : ℕ) (why : Why) → FaultIn g depth bytes at why → why ≢ Trailing

@@ -1,5 +1,5 @@
 -- The first fault in reading order. Inside, a fault's place is the number of bytes left there, which is the same at each level.
-use Rattle.std.specs.Prelude.{◌≡◌, ℕ, zero, suc, ◌-◌, ◌<◌, ◌≤◌, ◌⊎◌, Bool, true, false, not, ◌&&◌, ◌||◌, ◌==◌, List, [], ◌∷◌, ◌++◌, length, take, Option, Some, None, Ok, Err, nat_lt, if◌then◌else◌}
+use Rattle.std.specs.Prelude.{◌≡◌, ℕ, zero, suc, ◌-◌, ◌<◌, ◌≤◌, ◌⊎◌, Bool, true, false, not, ◌&&◌, ◌||◌, ◌==◌, List, [], ◌∷◌, ◌++◌, length, take, Option, Some, None, Ok, Err, nat_lt}
 use Rattle.std.specs.Str.{is_utf8}
 use Rattle.cbor_core.specs.declared.words.Grammar.{Grammar}
 use Rattle.cbor_core.specs.declared.words.Why.{Why}

@@ -6,3 +6,5 @@ pub mod Spells
 pub mod Faults
 pub mod Reading
 pub mod Decoding
+pub mod Encoding
+pub mod Marks

@@ -1,5 +1,5 @@
 -- Reading as a function on lists: what the decoder computes, by the same levels as the spelling.
-use Rattle.std.specs.Prelude.{◌≡◌, ℕ, zero, suc, ◌+◌, ◌-◌, ◌/◌, ◌<◌, ◌≤◌, Bool, true, false, ◌==◌, List, [], ◌∷◌, ◌++◌, length, take, drop, Option, Some, None, Result, Ok, Err, if◌then◌else◌}
+use Rattle.std.specs.Prelude.{◌≡◌, ℕ, zero, suc, ◌-◌, ◌<◌, ◌≤◌, true, false, ◌==◌, List, [], ◌∷◌, ◌++◌, length, take, drop, Option, Some, None, Result, Ok, Err, if◌then◌else◌}
 use Rattle.cbor_core.specs.declared.words.Grammar.{Grammar}
 use Rattle.cbor_core.specs.declared.words.Why.{Why}
 use Rattle.cbor_core.specs.declared.words.Why.TheVariants.{TooDeep}
@@ -13,7 +13,9 @@ use Rattle.cbor_core.specs.declared.tree.Item.{Item}
 use Rattle.cbor_core.specs.declared.tree.Node.TheVariants.{Uint, Nint, Bytes, Text, Array, Map, Tag, Simple, Float}
 use Rattle.std.specs.Str.{is_utf8}
 use Rattle.cbor_core.specs.Head.{head_at, limit, least}
-use Rattle.cbor_core.specs.Spells.{is_strict, key_row}
+use Rattle.cbor_core.specs.Bytes.{is_below}
+use Rattle.cbor_core.specs.declared.words.Grammar.TheVariants.{Strict}
+use Rattle.cbor_core.specs.Spells.{is_strict, key_row, SpellsIn}
 use Rattle.cbor_core.specs.Faults.{row_of, is_float}
 
 infixl 10 ◌>>=◌
@@ -113,11 +115,25 @@ pub record IsOpen (g : Grammar) (room : ℕ) (h : Head) (rest : List ℕ) : Type
   pub content : 2 ≤ h.major → h.major < 4 → h.argument ≤ length rest
   pub text : h.major ≡ 3 → is_utf8 (take h.argument rest) ≡ true
 
--- what a function returned, seen by `view`, is what reading gives, unless memory ran out
-abbrev pub Fails : {Y : Type 0} → ReadStop → Result Y Stop → Type 0
-Fails Memory read = Unit {0}
-Fails (At stop) read = read ≡ Err stop
+-- each earlier key is at most the last
+unfoldable pub Risen : (Item → List ℕ → Type 0) → List (Item × Item) → List ℕ → Type 0
+Risen Part [] last = Unit {0}
+Risen Part (pair ∷ pairs) last = ((t : List ℕ) × Part pair.0 t × (is_below last t ≡ false)) × Risen Part pairs last
 
-abbrev pub Gives : {X Y : Type 0} → (X → Y) → Result X ReadStop → Result Y Stop → Type 0
-Gives view (Ok x) read = read ≡ Ok (view x)
-Gives view (Err e) read = Fails e read
+-- in strict the keys so far have risen to the last
+abbrev pub KeysRise : Grammar → ℕ → List (Item × Item) → List ℕ → Type 0
+KeysRise g room earlier last = is_strict g ≡ true → Risen (SpellsIn Strict room) earlier last
+
+-- the key behind them is spelled so
+abbrev pub KeyStands : Grammar → ℕ → Item → List ℕ → Type 0
+KeyStands g room key text = is_strict g ≡ true → SpellsIn Strict room key text
+
+-- the code's stop is that of reading; want of memory is no answer of reading
+abbrev pub StopsAs : {Y : Type 0} → ReadStop → Result Y Stop → Type 0
+StopsAs (At stop) reading = reading ≡ Err stop
+StopsAs Memory reading = Unit {0}
+
+-- the code's answer is that of reading, once `view` has turned what it gave into plain values
+abbrev pub ReadsAs : {X Y : Type 0} → (X → Y) → Result X ReadStop → Result Y Stop → Type 0
+ReadsAs view (Err stop) reading = StopsAs stop reading
+ReadsAs view (Ok given) reading = reading ≡ Ok (view given)

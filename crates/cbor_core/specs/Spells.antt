@@ -1,6 +1,6 @@
 -- Which bytes spell an item (RFC 8949, 3 and 4.2.1), by cases on the item. The number `room` says how many containers may
 -- still be opened, one inside the other.
-use Rattle.std.specs.Prelude.{◌≡◌, ℕ, zero, suc, ◌+◌, ◌*◌, ◌<◌, ◌≤◌, ◌⊎◌, Bool, true, false, not, ◌&&◌, List, [], ◌∷◌, ◌++◌, length, Option, Some, None, if◌then◌else◌}
+use Rattle.std.specs.Prelude.{◌≡◌, ℕ, zero, suc, ◌<◌, ◌≤◌, ◌⊎◌, Bool, true, false, not, ◌&&◌, List, [], ◌∷◌, ◌++◌, length, Option, Some, None, if◌then◌else◌}
 use Rattle.std.specs.Str.{IsUtf8}
 use Rattle.cbor_core.specs.declared.words.Grammar.{Grammar}
 use Rattle.cbor_core.specs.declared.words.Grammar.TheVariants.{Strict, Wide}
@@ -8,7 +8,7 @@ use Rattle.cbor_core.specs.declared.words.Why.{Why}
 use Rattle.cbor_core.specs.declared.words.Why.TheVariants.{DupKey, KeyOrder}
 use Rattle.cbor_core.specs.declared.heads.Size.TheVariants.{Within, One, Two, Four, Eight}
 use Rattle.cbor_core.specs.declared.tree.Item.{Item}
-use Rattle.cbor_core.specs.declared.tree.Node.{Node, Node-F, out-Node}
+use Rattle.cbor_core.specs.declared.tree.Node.{Node-F, out-Node}
 use Rattle.cbor_core.specs.Bytes.{is_below}
 use Rattle.cbor_core.specs.Head.{IsHead, head, limit}
 use Rattle.cbor_core.specs.Tree.{Layer, is_key}

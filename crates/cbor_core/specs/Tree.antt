@@ -1,8 +1,8 @@
 -- An item as a tree, and when two are the same.
-use Rattle.std.specs.Prelude.{ℕ, Bool, true, false, ◌&&◌, ◌==◌, List, [], ◌∷◌, if◌then◌else◌}
+use Rattle.std.specs.Prelude.{Bool, true, false, ◌&&◌, ◌==◌, List, [], ◌∷◌, if◌then◌else◌}
 use base.Stored.{Gv, gnil, gnum, gcons}
 use Rattle.cbor_core.specs.declared.tree.Item.{Item}
-use Rattle.cbor_core.specs.declared.tree.Node.{Node, Node-F, out-Node}
+use Rattle.cbor_core.specs.declared.tree.Node.{Node, Node-F}
 use Rattle.cbor_core.specs.contracts.tree.Item.{the_row}
 
 -- one level of an item: its kind, with its parts

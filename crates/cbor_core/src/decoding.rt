@@ -1,12 +1,11 @@
 ghost use Rattle.cbor_core.specs.declared.words.Grammar.TheVariants.{Strict, Wide};
 ghost use Rattle.cbor_core.specs.Decoding.{Decoded, DecodedAll};
 
-use std::alloc::Global;
-
 use crate::heads::ReadStop;
 use crate::reading::item_of;
 use crate::tree::Item;
 use crate::words::{DecodeStop, Fault, Grammar, Why};
+use std::alloc::Global;
 
 const ROOM: u8 = 16;
 
@@ -30,7 +29,10 @@ fn decode_all(alloc: Global, g: Grammar, bytes: &[u8]) -> Result<Item, DecodeSto
         Ok((item, len)) => {
             if len < bytes.len() {
                 let at = len as u64;
-                return Err(DecodeStop::Fault(Fault { at, why: Why::Trailing }));
+                return Err(DecodeStop::Fault(Fault {
+                    at,
+                    why: Why::Trailing,
+                }));
             }
             Ok(item)
         }

@@ -2,9 +2,8 @@ ghost use Rattle.std.specs.Prelude.{◌≡◌, ℕ, ◌+◌, ◌*◌, ◌/◌, �
 ghost use Rattle.std.specs.Int.{byte_len, from_be_bytes};
 ghost use Rattle.cbor_core.specs.Head.{head_at, sized, width, limit, is_own};
 
-use std::alloc::{AllocError, AllocFailed};
-
 use crate::words::Why;
+use std::alloc::{AllocError, AllocFailed};
 
 /// How many bytes an argument takes: none of its own, 1, 2, 4 or 8 (RFC 8949, 3).
 #[derive(Clone, Copy)]

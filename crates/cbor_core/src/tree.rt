@@ -1,10 +1,9 @@
 ghost use Rattle.std.specs.Prelude.{◌≡◌, [], ◌∷◌, ◌++◌, length, OnOk, OnErr};
 
+use crate::strings::{Bytes, Text};
 use sqlite_items::{Boxed, Items};
 use std::alloc::{AllocError, Global};
 use std::marker::Model;
-
-use crate::strings::{Bytes, Text};
 
 /// A CBOR item (RFC 8949, 3). Contracts see it as a plain tree.
 #[cycle(item)]

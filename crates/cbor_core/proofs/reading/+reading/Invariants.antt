@@ -1,5 +1,7 @@
 use Rattle.std.proofs.Common.{◌≡◌, ◌+◌, ◌-◌, ◌*◌, []}
-use Rattle.cbor_core.specs.Reading.{read_each, read_pairs, read_in}
+use Rattle.cbor_core.specs.Bytes.{IsBytes}
+use Rattle.cbor_core.specs.Marks.{AreMarked}
+use Rattle.cbor_core.specs.Reading.{read_each, read_pairs, read_in, KeysRise}
 use Rattle.cbor_core.proofs.reading.+reading.Given as goal
 
 abbrev pub decreases-item_of : goal.decreases-item_of
@@ -21,4 +23,9 @@ abbrev pub invariant-items_of-loop : goal.invariant-items_of-loop
 invariant-items_of-loop l = read_each (read_in l.g l.room) (l.count - l.counter) l.items l.rest ≡ read_each (read_in l.g l.room) l.count [] l.bytes
 
 abbrev pub invariant-pairs_of-loop : goal.invariant-pairs_of-loop
-invariant-pairs_of-loop l = read_pairs l.g (read_in l.g l.room) (l.count - l.counter) l.pairs l.last l.rest ≡ read_pairs l.g (read_in l.g l.room) l.count [] [] l.bytes
+invariant-pairs_of-loop l = record {
+  read : read_pairs l.g (read_in l.g l.room) (l.count - l.counter) l.pairs l.last l.rest ≡ read_pairs l.g (read_in l.g l.room) l.count [] [] l.bytes;
+  rises : KeysRise l.g l.room l.pairs l.last;
+  fits : IsBytes l.rest;
+  marks : AreMarked l.marked l.room l.pairs l.marks.items;
+}

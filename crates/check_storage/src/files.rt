@@ -1,0 +1,42 @@
+// A journal in a real file.
+use scitt_disk::{Disk, FileDisk};
+use scitt_journal::{Journal, LoadStop};
+use std::test::Fail;
+
+#[test]
+fn a_file_is_created_closed_and_loaded(rt: HostRuntime) -> Result<(), Fail> {
+    let alloc = rt.alloc();
+    let mut disk = FileDisk::new(rt.clone()?, String::from_str(alloc, "journal")?);
+    assert!(rt; disk.len() == Ok(0), "a missing file has length 0");
+    assert!(rt; disk.sync().is_ok());
+    let Err(refused) = Journal::load(alloc, disk) else {
+        return Err(Fail::new("a missing file has a log"));
+    };
+    assert!(rt; refused.why == LoadStop::NoLog);
+    let Ok(mut journal) = Journal::create(alloc, refused.disk, &[2]) else {
+        return Err(Fail::new("no file is made"));
+    };
+    journal.reserve_buffer(3)?;
+    assert!(rt; !journal.needs_repair() && journal.count() == 1);
+    assert!(rt; journal.append(&[3, 4, 5]).is_ok());
+    assert_eq!(rt; journal.close().faults(), 0);
+    let again = FileDisk::new(rt.clone()?, String::from_str(alloc, "journal")?);
+    let Ok(mut loaded) = Journal::load(alloc, again) else {
+        return Err(Fail::new("the file isn't loaded"));
+    };
+    assert_eq!(rt; loaded.rest(), 0);
+    assert_eq!(rt; loaded.count(), 2);
+    let Ok(body) = loaded.body(alloc, 1) else {
+        return Err(Fail::new("the body isn't read"));
+    };
+    assert_eq!(rt; body.as_slice(), [3, 4, 5].as_slice());
+    let mut disk = loaded.close();
+    let mut past = [0; 2];
+    assert!(rt;
+        disk.read_at(14, &mut past).is_err(),
+        "the range passes the end"
+    );
+    assert!(rt; disk.write_at(16, &[1]).is_err(), "it begins past the end");
+    assert_eq!(rt; disk.faults(), 2);
+    Ok(())
+}

@@ -1,0 +1,9 @@
+pub mod Labels
+pub mod Kinds
+pub mod Parts
+pub mod Headers
+pub mod Sign1Of
+pub mod Strings
+pub mod Tbs
+pub mod Message
+pub mod Marks

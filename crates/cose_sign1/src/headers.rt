@@ -1,0 +1,110 @@
+ghost use Rattle.std.specs.Prelude.{◌≡◌};
+ghost use Rattle.cose_sign1.specs.Marks.{marks_of as digests_of_labels};
+ghost use Rattle.cose_sign1.specs.Headers.{Says, bad_header as header_stop, dup_label as label_stop, protected_fault, unprotected_fault, first_fault, header_fault};
+
+use crate::crit::check_crit;
+use crate::kinds::is_right_kind;
+use crate::labels::{is_number, label_of};
+use crate::marks::{has_marked_key, mark_of, marks_of};
+use crate::stops::Sign1Stop;
+use cbor_core::Item;
+use std::alloc::Global;
+
+fn bad_header(alloc: Global, key: &Item) -> Result<(), Sign1Stop>
+    ensures { Says result (header_stop key.now) }
+{
+    match label_of(alloc, key) {
+        Ok(Some(label)) => Err(Sign1Stop::BadHeader(label)),
+        Ok(None) => Ok(()),
+        Err(_) => Err(Sign1Stop::OutOfMemory),
+    }
+}
+
+fn dup_label(alloc: Global, key: &Item) -> Result<(), Sign1Stop>
+    ensures { Says result (label_stop key.now) }
+{
+    match label_of(alloc, key) {
+        Ok(Some(label)) => Err(Sign1Stop::DupLabel(label)),
+        Ok(None) => Ok(()),
+        Err(_) => Err(Sign1Stop::OutOfMemory),
+    }
+}
+
+fn check_protected_entry(alloc: Global, entry: &(Item, Item)) -> Result<(), Sign1Stop>
+    ensures { Says result (protected_fault entry.now) }
+{
+    if !is_right_kind(entry) || is_number(394, &entry.0) {
+        return bad_header(alloc, &entry.0);
+    }
+    Ok(())
+}
+
+fn check_unprotected_entry(
+    alloc: Global,
+    protected: &[(Item, Item)],
+    marks: &[[u8; 32]],
+    entry: &(Item, Item),
+) -> Result<(), Sign1Stop>
+    requires { marks.now ≡ digests_of_labels protected.now }
+    ensures { Says result (unprotected_fault protected.now entry.now) }
+{
+    let mark = mark_of(&entry.0);
+    if has_marked_key(protected, marks, &entry.0, &mark) {
+        dup_label(alloc, &entry.0)?;
+    }
+    if !is_right_kind(entry) {
+        return bad_header(alloc, &entry.0);
+    }
+    Ok(())
+}
+
+fn check_protected(alloc: Global, entries: &[(Item, Item)]) -> Result<(), Sign1Stop>
+    ensures { Says result (first_fault protected_fault entries.now) }
+{
+    for entry in entries {
+        check_protected_entry(alloc, entry)?;
+    }
+    Ok(())
+}
+
+fn check_unprotected(
+    alloc: Global,
+    protected: &[(Item, Item)],
+    marks: &[[u8; 32]],
+    entries: &[(Item, Item)],
+) -> Result<(), Sign1Stop>
+    requires { marks.now ≡ digests_of_labels protected.now }
+    ensures { Says result (first_fault (unprotected_fault protected.now) entries.now) }
+{
+    for entry in entries {
+        check_unprotected_entry(alloc, protected, marks, entry)?;
+    }
+    Ok(())
+}
+
+fn check_both(
+    alloc: Global,
+    protected: &[(Item, Item)],
+    entries: &[(Item, Item)],
+) -> Result<(), Sign1Stop>
+    ensures { Says result (first_fault (unprotected_fault protected.now) entries.now) }
+{
+    match marks_of(alloc, protected) {
+        Ok(marks) => check_unprotected(alloc, protected, marks.as_slice(), entries),
+        Err(_) => Err(Sign1Stop::OutOfMemory),
+    }
+}
+
+/// The first fault of the headers: protected entries, then unprotected ones, then crit.
+#[tactic(auto, unfolding(crate::specs::Headers::header_fault))]
+pub fn check_headers(
+    alloc: Global,
+    protected: &[(Item, Item)],
+    unprotected: &[(Item, Item)],
+) -> Result<(), Sign1Stop>
+    ensures { Says result (header_fault protected.now unprotected.now) }
+{
+    check_protected(alloc, protected)?;
+    check_both(alloc, protected, unprotected)?;
+    check_crit(protected, unprotected)
+}

@@ -1,0 +1,101 @@
+ghost use Rattle.std.specs.Prelude.{◌≡◌, IfOk};
+ghost use Rattle.cose_sign1.specs.Sign1Of.{Answered, ReadsParts, headers_with, message_of};
+
+use crate::entries::protected_entries;
+use crate::headers::check_headers;
+use crate::pairs::pairs_of;
+use crate::parts::{Parts, parts_of};
+use crate::stops::Sign1Stop;
+use cbor_core::{Bytes, DecodeStop, Item, Pairs, decode_wide_all};
+use sqlite_items::Items;
+use std::alloc::{AllocError, Global};
+
+/// The header parameters of a message (RFC 9052, 3), each map's entries in their order.
+#[derive(Drop)]
+pub struct Headers {
+    pub protected: Pairs,
+    pub unprotected: Pairs,
+}
+
+/// A COSE_Sign1 (RFC 9052, 4.2).
+#[derive(Drop)]
+pub struct Sign1 {
+    /// Whether tag 18 stands before it.
+    pub tagged: bool,
+    /// The protected string as it was given.
+    pub protected: Bytes,
+    pub headers: Headers,
+    /// The payload, or nothing where it is detached.
+    pub payload: Option<Bytes>,
+    pub signature: Bytes,
+}
+
+fn read_parts(alloc: Global, bytes: &[u8]) -> Result<Parts, Sign1Stop>
+    ensures { ReadsParts bytes.now result }
+{
+    match decode_wide_all(alloc, bytes) {
+        Ok(item) => match parts_of(item) {
+            Some(parts) => Ok(parts),
+            None => Err(Sign1Stop::NotSign1),
+        },
+        Err(DecodeStop::Fault(fault)) => Err(Sign1Stop::Cbor(fault)),
+        Err(DecodeStop::OutOfMemory) => Err(Sign1Stop::OutOfMemory),
+    }
+}
+
+fn headers_of(
+    alloc: Global,
+    protected: Items<(Item, Item)>,
+    unprotected: Items<(Item, Item)>,
+) -> Result<Headers, AllocError>
+    ensures { IfOk result (λ h. h ≡ headers_with protected unprotected) }
+{
+    let protected = pairs_of(alloc, protected)?;
+    let unprotected = pairs_of(alloc, unprotected)?;
+    Ok(Headers {
+        protected,
+        unprotected,
+    })
+}
+
+fn message(alloc: Global, parts: Parts, entries: Items<(Item, Item)>) -> Result<Sign1, AllocError>
+    ensures { IfOk result (λ v. v ≡ message_of parts entries) }
+{
+    let Parts {
+        tagged,
+        protected,
+        unprotected,
+        payload,
+        signature,
+    } = parts;
+    let headers = headers_of(alloc, entries, unprotected)?;
+    Ok(Sign1 {
+        tagged,
+        protected,
+        headers,
+        payload,
+        signature,
+    })
+}
+
+/// Reads bytes as one message in the wide grammar, leaving none over.
+///
+/// These steps are tried in turn, and the first that fails is the refusal. `Cbor(fault)`: reading the bytes as one item.
+/// `NotSign1`: finding an array of four in it, with tag 18 or none, whose parts are a string of bytes, a map with labels for keys, a
+/// string of bytes or nil, and a string of bytes (RFC 9052, 4.2 and 1.5). `Protected(fault)`: reading what stands in the first
+/// string, unless it has no bytes; places are counted from the string's start. `NotSign1`: finding a map with labels for keys there.
+/// Then each protected entry and after them each unprotected one: `DupLabel`, both maps have its label (RFC 9052, 3);
+/// `BadHeader`, its value isn't what the label wants (RFC 9052, 3.1), or receipts are protected. Last `BadCrit`: crit is
+/// unprotected or empty, or one of its labels isn't understood or isn't among the protected ones (RFC 9052, 3.1).
+/// `OutOfMemory` is the want of memory alone.
+pub fn decode(alloc: Global, bytes: &[u8]) -> Result<Sign1, Sign1Stop>
+    ensures { Answered bytes.now result }
+{
+    let parts = read_parts(alloc, bytes)?;
+    let entries = protected_entries(alloc, parts.protected.as_slice())?;
+    check_headers(alloc, entries.as_slice(), parts.unprotected.as_slice())?;
+    match message(alloc, parts, entries) {
+        Ok(message) => Ok(message),
+        Err(_) => Err(Sign1Stop::OutOfMemory),
+    }
+}

@@ -1,0 +1,5 @@
+pub mod VerifyLaws
+pub mod PartsRead
+pub mod CapacityLaws
+pub mod BranchLaws
+pub mod HssLaws

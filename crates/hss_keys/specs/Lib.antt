@@ -1,0 +1,5 @@
+pub mod Levels
+pub mod Verifies
+pub mod Signing
+pub mod Branches
+pub mod Signers

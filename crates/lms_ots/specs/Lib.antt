@@ -1,0 +1,5 @@
+pub mod Words
+pub mod Parameters
+pub mod Chains
+pub mod Digits
+pub mod OneTime

@@ -1,0 +1,4 @@
+pub mod Types
+pub mod Nodes
+pub mod Verifies
+pub mod Trees

@@ -1,0 +1,9 @@
+pub mod Images
+pub mod Changes
+pub mod Moments
+pub mod Calls
+pub mod CallLemmas
+pub mod Failing
+pub mod Memory
+pub mod Fuse
+pub mod Mixed

@@ -1,0 +1,34 @@
+use Rattle.std.proofs.Common.{◌≡◌, ℕ, ◌+◌, ◌^◌, ◌<◌, List, [], ◌∷◌, ◌++◌, length, Result, Ok, Err, OnErr, is_ok, if◌then◌else◌, refl, ap, sym, ◌∙◌, arith}
+use Rattle.scitt_disk.specs.Images.{Held, LeavesOnly}
+use Rattle.scitt_disk.specs.Changes.{after_write, after_sync}
+use Rattle.scitt_journal.specs.Layout.{sized, spelled, starts}
+use Rattle.scitt_journal.specs.Log.{Log}
+use Rattle.scitt_journal.specs.State.{AtRest, InDoubt, Closed, Pending}
+use Rattle.scitt_journal.proofs.Gates.{starts_push}
+use Rattle.scitt_journal.proofs.Stages.{record_done}
+
+-- what holds of a journal as it is passed holds of its fields as they are opened, and the other way round
+pub rest_inside : {D : Type 0} (held : D → Held) (view log : Log D) (bodies : List (List ℕ)) → view ≡ log → AtRest held log bodies → AtRest held view bodies
+rest_inside held view log bodies e was = rw e was
+
+pub doubt_inside : {D : Type 0} (held : D → Held) (view log : Log D) (bodies : List (List ℕ)) (body : List ℕ) → view ≡ log → InDoubt held log bodies body → InDoubt held view bodies body
+doubt_inside held view log bodies body e was = rw e was
+
+pub leaves_outside : {D : Type 0} (held : D → Held) (view log : Log D) (new : Held) (P : List ℕ → Type 0) → view ≡ log → LeavesOnly (held view.disk) new P → LeavesOnly (held log.disk) new P
+leaves_outside held view log new P e leaves = rw e at leaves
+
+pub on_err : {T E P : Type 0} (r : Result T E) → P → OnErr r P
+on_err (Ok x) p = tt
+on_err (Err x) p = p
+
+pub pending_after : (old middle : Held) (gate : ℕ) (bodies : List (List ℕ)) (body bytes : List ℕ) → bytes ≡ sized body ++ 0 ∷ [] → middle ≡ after_sync (after_write (gate + 1) bytes old) → length body < 2 ^ 32 → Closed old gate bodies → Pending middle gate bodies body
+pending_after old middle gate bodies body bytes spelled_so e fits was =
+    rw (e, spelled_so) (record_done old gate bodies body fits was)
+
+pub offsets_after : {T E : Type 0} (r : Result T E) (x : T) (old new : List ℕ) (gate : ℕ) (bodies : List (List ℕ)) (body : List ℕ) → r ≡ Ok x → new ≡ (if is_ok r then old ++ gate ∷ [] else old) → old ≡ starts 0 bodies → length (spelled bodies) ≡ gate → new ≡ starts 0 (bodies ++ body ∷ [])
+offsets_after r x old new gate bodies body ok e was place =
+    let pushed : new ≡ old ++ gate ∷ [] = rw ok at e in
+    pushed ∙ ap (λ list. list ++ gate ∷ []) was ∙ ap (λ at. starts 0 bodies ++ at ∷ []) (omega (arith, place)) ∙ sym (starts_push 0 bodies body)
+
+pub offsets_count : {D : Type 0} (view log : Log D) → view ≡ log → length view.offsets ≡ length log.offsets
+offsets_count view log e = rw e refl

@@ -1,0 +1,14 @@
+use Rattle.scitt_journal.proofs.Unique.{records_unique, no_log_no_records, no_log_not_short, short_no_records, short_unique}
+use Rattle.scitt_journal.proofs.Stages.{closed_now, pending_now}
+use Rattle.scitt_journal.proofs.laws.journal_laws.Goals as goal
+
+pub returns : goal.returns
+returns c =
+    record {
+      unique = records_unique;
+      no_log = λ bytes none. (no_log_no_records bytes none, no_log_not_short bytes none);
+      short = short_no_records;
+      short_at = short_unique;
+      at_rest = closed_now;
+      in_doubt = pending_now;
+    }

@@ -1,0 +1,75 @@
+use Rattle.std.proofs.Common.{◌+◌, ◌++◌, ◌∷◌, [], length, ◌∙◌, inl, arith}
+use Rattle.scitt_disk.specs.Moments.{leaves_then, leaves_weaker}
+use Rattle.scitt_journal.specs.Layout.{OneOf}
+use Rattle.scitt_journal.specs.State.{Closed, MayLeave}
+use Rattle.scitt_journal.proofs.Stages.{closed_now, record_may_leave, record_failed, gate_may_leave, gate_failed, gate_opened}
+use Rattle.scitt_journal.proofs.Seen.{rest_inside, leaves_outside, on_err, pending_after, offsets_after}
+use Rattle.scitt_journal.proofs.record.Journal.append.Goals as goal
+
+pub returns-in_err-write_and_sync-clause-any_moment :
+    goal.returns-in_err-write_and_sync-clause-any_moment
+returns-in_err-write_and_sync-clause-any_moment g c = λ bodies tells was.
+    let held = g.D.Disk.held in
+    let inside = rest_inside held _ _ bodies c.self.view_is was in
+    leaves_outside held _ _ _ (OneOf bodies c.args.body.now) c.self.view_is (leaves_weaker _ _ (MayLeave (c.self.inside.gate + 1) c.deref.result.now (held c.self.inside.disk)) _ (λ image may. inl (record_may_leave _ _ bodies _ image inside.closed may)) (c.write_and_sync.ensures.any_moment tells))
+
+pub returns-in_err-write_and_sync-clause-as_before :
+    goal.returns-in_err-write_and_sync-clause-as_before
+returns-in_err-write_and_sync-clause-as_before g c =
+    on_err c.from_residual.result (λ ready bodies tells was.
+    let held = g.D.Disk.held in
+    let inside = rest_inside held _ _ bodies c.self.view_is was in
+    record {
+      closed = record_failed (held c.self.inside.disk) (held c.write_and_sync.new.disk) c.self.inside.gate (length c.deref.result.now) bodies inside.closed (c.in_err-write_and_sync.ensures.failed tells);
+      offsets = inside.offsets;
+    })
+
+pub returns-in_err-write_and_sync-2-clause-any_moment :
+    goal.returns-in_err-write_and_sync-2-clause-any_moment
+returns-in_err-write_and_sync-2-clause-any_moment g c = λ bodies tells was.
+    let held = g.D.Disk.held in
+    let body = c.args.body.now in
+    let inside = rest_inside held _ _ bodies c.self.view_is was in
+    let pending = pending_after (held c.self.inside.disk) (held c.write_and_sync.new.disk) c.self.inside.gate bodies body c.deref.result.now (c.deref.ensures.value ∙ c.fill.ensures.items) (c.in_ok-write_and_sync.ensures.done tells) (omega arith) inside.closed in
+    leaves_outside held _ _ _ (OneOf bodies body) c.self.view_is (leaves_then _ (held c.write_and_sync.new.disk) _ _ (leaves_weaker _ _ (MayLeave (c.self.inside.gate + 1) c.deref.result.now (held c.self.inside.disk)) _ (λ image may. inl (record_may_leave _ _ bodies _ image inside.closed may)) (c.write_and_sync.ensures.any_moment tells)) (leaves_weaker _ _ (MayLeave c.self.inside.gate (1 ∷ []) (held c.write_and_sync.new.disk)) _ (λ image may. gate_may_leave _ _ bodies body 1 image pending may) (c.write_and_sync-2.ensures.any_moment tells)))
+
+pub returns-in_err-write_and_sync-2-clause-in_doubt :
+    goal.returns-in_err-write_and_sync-2-clause-in_doubt
+returns-in_err-write_and_sync-2-clause-in_doubt g c =
+    on_err c.from_residual-in_err-write_and_sync-2.result (λ begun bodies tells was.
+    let held = g.D.Disk.held in
+    let body = c.args.body.now in
+    let inside = rest_inside held _ _ bodies c.self.view_is was in
+    let pending = pending_after (held c.self.inside.disk) (held c.write_and_sync.new.disk) c.self.inside.gate bodies body c.deref.result.now (c.deref.ensures.value ∙ c.fill.ensures.items) (c.in_ok-write_and_sync.ensures.done tells) (omega arith) inside.closed in
+    record {
+      pending = gate_failed (held c.write_and_sync.new.disk) (held c.write_and_sync-2.new.disk) c.self.inside.gate bodies body pending (c.in_err-write_and_sync-2.ensures.failed tells);
+      offsets = inside.offsets;
+    })
+
+pub returns-clause-any_moment : goal.returns-clause-any_moment
+returns-clause-any_moment g c = λ bodies tells was.
+    let held = g.D.Disk.held in
+    let body = c.args.body.now in
+    let inside = rest_inside held _ _ bodies c.self.view_is was in
+    let pending = pending_after (held c.self.inside.disk) (held c.write_and_sync.new.disk) c.self.inside.gate bodies body c.deref.result.now (c.deref.ensures.value ∙ c.fill.ensures.items) (c.in_ok-write_and_sync.ensures.done tells) (omega arith) inside.closed in
+    leaves_outside held _ _ _ (OneOf bodies body) c.self.view_is (leaves_then _ (held c.write_and_sync.new.disk) _ _ (leaves_weaker _ _ (MayLeave (c.self.inside.gate + 1) c.deref.result.now (held c.self.inside.disk)) _ (λ image may. inl (record_may_leave _ _ bodies _ image inside.closed may)) (c.write_and_sync.ensures.any_moment tells)) (leaves_weaker _ _ (MayLeave c.self.inside.gate (1 ∷ []) (held c.write_and_sync.new.disk)) _ (λ image may. gate_may_leave _ _ bodies body 1 image pending may) (c.write_and_sync-2.ensures.any_moment tells)))
+
+pub returns-clause-appended : goal.returns-clause-appended
+returns-clause-appended g c = λ bodies tells was.
+    let held = g.D.Disk.held in
+    let body = c.args.body.now in
+    let inside = rest_inside held _ _ bodies c.self.view_is was in
+    let pending = pending_after (held c.self.inside.disk) (held c.write_and_sync.new.disk) c.self.inside.gate bodies body c.deref.result.now (c.deref.ensures.value ∙ c.fill.ensures.items) (c.in_ok-write_and_sync.ensures.done tells) (omega arith) inside.closed in
+    record {
+      closed = rw (c.in_ok-write_and_sync-2.ensures.done tells) (gate_opened (held c.write_and_sync.new.disk) c.self.inside.gate bodies body pending);
+      offsets = offsets_after c.push.result c.unwrap.result c.self.inside.offsets.items c.push.new.self.items c.self.inside.gate bodies body c.unwrap.ensures c.push.ensures.items inside.offsets inside.closed.place;
+    }
+
+pub returns-clause-sure : goal.returns-clause-sure
+returns-clause-sure g c = λ bodies tells was image now.
+    let held = g.D.Disk.held in
+    let body = c.args.body.now in
+    let inside = rest_inside held _ _ bodies c.self.view_is was in
+    let pending = pending_after (held c.self.inside.disk) (held c.write_and_sync.new.disk) c.self.inside.gate bodies body c.deref.result.now (c.deref.ensures.value ∙ c.fill.ensures.items) (c.in_ok-write_and_sync.ensures.done tells) (omega arith) inside.closed in
+    let closed : Closed (held c.write_and_sync-2.new.disk) (c.self.inside.gate + (length body + 5)) (bodies ++ body ∷ []) = rw (c.in_ok-write_and_sync-2.ensures.done tells) (gate_opened (held c.write_and_sync.new.disk) c.self.inside.gate bodies body pending) in
+    closed_now _ _ _ image closed now

@@ -1,0 +1,32 @@
+use Rattle.std.specs.Prelude.{◌≡◌, ℕ, List}
+use Rattle.scitt_disk.specs.Images.{Held, ImageNow}
+use Rattle.scitt_journal.specs.Layout.{NoLog, RecordsOf, Short, Recovers, OneOf}
+use Rattle.scitt_journal.specs.State.{Closed, Pending}
+
+-- a file has one list of records, and one rest
+abbrev pub RecordsAreUnique : Type 0
+RecordsAreUnique =
+    (bytes : List ℕ) (bodies others : List (List ℕ)) (rest left : ℕ) → RecordsOf bytes bodies rest → RecordsOf bytes others left → (bodies ≡ others) × (rest ≡ left)
+
+-- a file without a log has no records, and none that passes the end
+abbrev pub NoLogHasNoRecords : Type 0
+NoLogHasNoRecords =
+    (bytes : List ℕ) → NoLog bytes → ((bodies : List (List ℕ)) (rest : ℕ) → RecordsOf bytes bodies rest → ⊥) × ((at : ℕ) → Short bytes at → ⊥)
+
+-- a short file stands for no list
+abbrev pub ShortHasNoRecords : Type 0
+ShortHasNoRecords =
+    (bytes : List ℕ) (at : ℕ) → Short bytes at → (bodies : List (List ℕ)) → Recovers bytes bodies → ⊥
+
+-- a short file is cut at one gate
+abbrev pub ShortIsUnique : Type 0
+ShortIsUnique = (bytes : List ℕ) (at other : ℕ) → Short bytes at → Short bytes other → at ≡ other
+
+-- at rest a crash leaves the records, and while a repair is needed those or the ones with the record in doubt
+abbrev pub RestIsRecovered : Type 0
+RestIsRecovered =
+    (held : Held) (gate : ℕ) (bodies : List (List ℕ)) (image : List ℕ) → Closed held gate bodies → ImageNow held image → Recovers image bodies
+
+abbrev pub DoubtIsOneOf : Type 0
+DoubtIsOneOf =
+    (held : Held) (gate : ℕ) (bodies : List (List ℕ)) (body image : List ℕ) → Pending held gate bodies body → ImageNow held image → OneOf bodies body image

@@ -1,0 +1,5 @@
+pub mod Layout
+pub mod Log
+pub mod State
+pub mod Stops
+pub mod Laws

@@ -1,0 +1,55 @@
+ghost use Rattle.std.specs.Prelude.{◌≡◌, ◌≤◌, length, nat_lt, IfOk};
+ghost use Rattle.cose_sign1.specs.Message.{bare_len as len_of_bare};
+ghost use Rattle.statement.specs.Statements.{Logs, most_logged};
+
+use crate::stops::ParseStop;
+use cbor_core::Bytes;
+use cose_sign1::{bare_into, bare_len};
+use std::alloc::{AllocError, Global};
+
+const MOST: usize = 4_194_304;
+
+fn is_too_large(protected: &[u8], payload: &[u8], signature: &[u8]) -> bool
+    ensures { result ≡ nat_lt most_logged (len_of_bare protected.now payload.now signature.now) }
+{
+    if protected.len() > MOST {
+        return true;
+    }
+    if payload.len() > MOST {
+        return true;
+    }
+    if signature.len() > MOST {
+        return true;
+    }
+    bare_len(protected, payload, signature) > MOST
+}
+
+fn zeros(alloc: Global, len: usize) -> Result<Vec<u8>, AllocError>
+    ensures { IfOk result (λ v. length v.items ≡ len) }
+{
+    vec![in alloc; 0; len]
+}
+
+/// The logged form: the strict encoding of tag 18 on the protected string as it was given, an empty map, the payload and the
+/// signature. `TooLarge` where it exceeds 4,194,304 bytes.
+pub fn logged_form(
+    alloc: Global,
+    protected: &[u8],
+    payload: &[u8],
+    signature: &[u8],
+) -> Result<Bytes, ParseStop>
+    ensures { Logs protected.now payload.now signature.now result }
+{
+    if is_too_large(protected, payload, signature) {
+        return Err(ParseStop::TooLarge);
+    }
+    if protected.len() > MOST || payload.len() > MOST || signature.len() > MOST {
+        return Err(ParseStop::TooLarge);
+    }
+    let len = bare_len(protected, payload, signature);
+    let Ok(mut bytes) = zeros(alloc, len) else {
+        return Err(ParseStop::OutOfMemory);
+    };
+    bare_into(protected, payload, signature, &mut bytes);
+    Ok(Bytes::from_vec(bytes))
+}
