@@ -1,6 +1,6 @@
 // The list of failing calls, as the disks use it.
 ghost use Rattle.std.specs.Prelude.{◌≡◌, ◌≤◌, ◌↔◌, false, IsTrue};
-ghost use Rattle.scitt_io.specs.Causes.{Rose};
+ghost use Rattle.scitt_io.specs.Causes.{Rose, raised};
 ghost use Rattle.scitt_disk.specs.Failing.{FailsNow, Advances};
 
 use scitt_io::Plan;
@@ -11,6 +11,7 @@ pub fn fails_next(plan: &mut Plan) -> bool
     ensures counted { Advances plan.old plan.new }
     ensures later { plan.old.faults ≤ plan.new.faults }
     ensures rose { IsTrue result → Rose plan.old.faults plan.new.faults }
+    ensures once { IsTrue result → plan.new.faults ≡ raised plan.old.faults }
     ensures kept { result ≡ false → plan.new.faults ≡ plan.old.faults }
 {
     let _before = plan.faults;
@@ -23,6 +24,7 @@ pub fn count_fault(plan: &mut Plan)
     ensures fails { plan.new.fails ≡ plan.old.fails }
     ensures later { plan.old.faults ≤ plan.new.faults }
     ensures rose { Rose plan.old.faults plan.new.faults }
+    ensures once { plan.new.faults ≡ raised plan.old.faults }
 {
     let _before = plan.faults;
     plan.count_fault();

@@ -82,6 +82,8 @@ impl Disk for FuseDisk {
         ensures stopped { passes_of self.old ≡ 0 → beneath self.new ≡ beneath self.old }
         ensures passed { 0 < passes_of self.old
             → Advances (plan_of (beneath self.old)) (plan_of (beneath self.new)) }
+        ensures passed_on { 0 < passes_of self.old
+            → HasCause (plan_of (beneath self.old)).faults (plan_of (beneath self.new)).faults result }
         ensures passes { passes_of self.new ≡ passes_of self.old - 1 }
     {
         if self.refuses() {
@@ -100,6 +102,8 @@ impl Disk for FuseDisk {
         ensures stopped { passes_of self.old ≡ 0 → beneath self.new ≡ beneath self.old }
         ensures passed { 0 < passes_of self.old
             → Advances (plan_of (beneath self.old)) (plan_of (beneath self.new)) }
+        ensures passed_on { 0 < passes_of self.old
+            → HasCause (plan_of (beneath self.old)).faults (plan_of (beneath self.new)).faults result }
         ensures passes { passes_of self.new ≡ passes_of self.old - 1 }
     {
         if self.refuses() {
@@ -118,6 +122,8 @@ impl Disk for FuseDisk {
         ensures stopped { passes_of self.old ≡ 0 → beneath self.new ≡ beneath self.old }
         ensures passed { 0 < passes_of self.old
             → Advances (plan_of (beneath self.old)) (plan_of (beneath self.new)) }
+        ensures passed_on { 0 < passes_of self.old
+            → HasCause (plan_of (beneath self.old)).faults (plan_of (beneath self.new)).faults result }
         ensures passes { passes_of self.new ≡ passes_of self.old - 1 }
     {
         if self.refuses() {
@@ -135,6 +141,8 @@ impl Disk for FuseDisk {
         ensures stopped { passes_of self.old ≡ 0 → beneath self.new ≡ beneath self.old }
         ensures passed { 0 < passes_of self.old
             → Advances (plan_of (beneath self.old)) (plan_of (beneath self.new)) }
+        ensures passed_on { 0 < passes_of self.old
+            → HasCause (plan_of (beneath self.old)).faults (plan_of (beneath self.new)).faults result }
         ensures passes { passes_of self.new ≡ passes_of self.old - 1 }
     {
         if self.refuses() {

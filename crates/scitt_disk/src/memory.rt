@@ -1,5 +1,5 @@
 ghost use Rattle.std.specs.Prelude.{◌≡◌, ℕ, List, ◌+◌, ◌≤◌, ◌<◌, ◌↔◌, ◌⊎◌, Bool, true, IsTrue, IfOk, OnOk, OnErr, IsErr, [], length, take, drop, if◌then◌else◌};
-ghost use Rattle.scitt_io.specs.Causes.{HasCause};
+ghost use Rattle.scitt_io.specs.Causes.{HasCause, raised};
 ghost use Rattle.scitt_disk.specs.Images.{ImageNow};
 ghost use Rattle.scitt_disk.specs.Changes.{fresh, after_write, after_sync, AfterFailedWrite};
 ghost use Rattle.scitt_disk.specs.Calls.{held_from};
@@ -64,6 +64,8 @@ impl MemDisk {
             → held_of d ≡ fresh (held_of self.now).epoch.synced) }
         ensures newest { IfOk result (λ d. pick ≡ 1 → held_of d ≡ fresh (held_of self.now).seen) }
         ensures fails { IfOk result (λ d. (plan_of d).fails.items ≡ []) }
+        ensures made { IfOk result (λ d. (plan_of d).made ≡ 0) }
+        ensures faults { IfOk result (λ d. (plan_of d).faults ≡ 0) }
     {
         let alloc = *self.bytes.allocator();
         let first = chosen(self.kept, &self.first, &self.bytes);
@@ -119,6 +121,7 @@ impl Disk for MemDisk {
         ensures cause { HasCause (plan_of self.old).faults (plan_of self.new).faults result }
         ensures listed { IsErr result ↔ FailsNow (plan_of self.old) }
         ensures counted { Advances (plan_of self.old) (plan_of self.new) }
+        ensures once { OnErr result ((plan_of self.new).faults ≡ raised (plan_of self.old).faults) }
     {
         if fails_next(&mut self.plan) {
             return Err(DiskFault);
@@ -137,6 +140,7 @@ impl Disk for MemDisk {
         ensures only { OnErr result (FailsNow (plan_of self.old) ⊎ (length (held_of self.old).seen
             < at + length buf.old)) }
         ensures counted { Advances (plan_of self.old) (plan_of self.new) }
+        ensures once { OnErr result ((plan_of self.new).faults ≡ raised (plan_of self.old).faults) }
     {
         if fails_next(&mut self.plan) {
             return Err(DiskFault);
@@ -158,6 +162,7 @@ impl Disk for MemDisk {
         ensures cause { HasCause (plan_of self.old).faults (plan_of self.new).faults result }
         ensures listed { FailsNow (plan_of self.old) → IsErr result }
         ensures counted { Advances (plan_of self.old) (plan_of self.new) }
+        ensures once { OnErr result ((plan_of self.new).faults ≡ raised (plan_of self.old).faults) }
     {
         if fails_next(&mut self.plan) {
             note_refusal(&mut self.changes, at, bytes.len() as u64);
@@ -176,6 +181,7 @@ impl Disk for MemDisk {
         ensures cause { HasCause (plan_of self.old).faults (plan_of self.new).faults result }
         ensures listed { FailsNow (plan_of self.old) → IsErr result }
         ensures counted { Advances (plan_of self.old) (plan_of self.new) }
+        ensures once { OnErr result ((plan_of self.new).faults ≡ raised (plan_of self.old).faults) }
     {
         if fails_next(&mut self.plan) {
             return Err(DiskFault);

@@ -5,3 +5,4 @@ pub mod Seen
 pub mod Scans
 pub mod Bodies
 pub mod Unique
+pub mod OneOfThree

@@ -42,7 +42,7 @@ same_tail a b p q fits_a fits_b e =
     sym (drop_at a p (length a) refl) ∙ ap (drop (length a)) (same_after a b p q e) ∙ drop_at b q (length a) (sym size)
 
 -- the bytes after an open gate
-opened_as : (body : List ℕ) (bodies : List (List ℕ)) (tail : List ℕ) → spelled (body ∷ bodies) ++ tail ≡ 1 ∷ (sized body ++ (spelled bodies ++ tail))
+pub opened_as : (body : List ℕ) (bodies : List (List ℕ)) (tail : List ℕ) → spelled (body ∷ bodies) ++ tail ≡ 1 ∷ (sized body ++ (spelled bodies ++ tail))
 opened_as body bodies tail = ap (λ rest. 1 ∷ rest) (append_assoc (sized body) (spelled bodies) tail)
 
 -- two lists of records with gates that aren't open behind them are one

@@ -1,7 +1,16 @@
-use Rattle.std.specs.Prelude.{◌≡◌, ℕ, List}
+use Rattle.std.specs.Prelude.{◌≡◌, ℕ, ◌<◌, ◌⊎◌, List, slice_index}
 use Rattle.scitt_disk.specs.Images.{Held, ImageNow}
 use Rattle.scitt_journal.specs.Layout.{NoLog, RecordsOf, Short, Recovers, OneOf}
 use Rattle.scitt_journal.specs.State.{Closed, Pending}
+
+-- each number is a byte
+abbrev pub AreBytes : List ℕ → Type 0
+AreBytes bytes = (i : ℕ) → slice_index bytes i < 256
+
+-- every file has no log, or a list of records, or is short
+abbrev pub OneOfThree : Type 0
+OneOfThree =
+    (bytes : List ℕ) → AreBytes bytes → NoLog bytes ⊎ (((bodies : List (List ℕ)) × ((rest : ℕ) × RecordsOf bytes bodies rest)) ⊎ ((at : ℕ) × Short bytes at))
 
 -- a file has one list of records, and one rest
 abbrev pub RecordsAreUnique : Type 0

@@ -190,9 +190,14 @@ impl<D: Disk> Journal<D> {
 
     /// The number of records.
     pub fn count(&self) -> u64
-        ensures { result ≡ length self.now.offsets }
+        ensures value { result ≡ length self.now.offsets }
+        ensures at_rest { IsTrue D.tells → (bodies : List (List ℕ)) → AtRest D.held self.now bodies
+            → result ≡ length bodies }
+        ensures in_doubt { IsTrue D.tells → (bodies : List (List ℕ)) (body : List ℕ)
+            → InDoubt D.held self.now bodies body → result ≡ length bodies }
     {
-        self.offsets.len() as u64
+        let offsets: &[u64] = &self.offsets;
+        offsets.len() as u64
     }
 
     /// The number of bytes after the gate that ends the records.

@@ -1,7 +1,0 @@
-//! Tests of `cbor_core`.
-#![tactic(auto)]
-
-#[cfg(test)]
-mod answers;
-#[cfg(test)]
-mod vectors;
