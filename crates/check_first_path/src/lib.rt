@@ -1,4 +1,4 @@
-//! Tests of the first path: `run_tool` on `root`, over files in memory, and the objects of `scitt_io`.
+//! Tests of the first path: `run_tool` on `root` and `show`, over files in memory, and the objects of `scitt_io`.
 #![tactic(auto)]
 
 #[cfg(test)]
@@ -9,3 +9,5 @@ mod outside;
 mod rows;
 #[cfg(test)]
 mod runs;
+#[cfg(test)]
+mod shows;

@@ -67,7 +67,10 @@ fn refuses_words_that_are_no_command(rt: HostRuntime) -> Result<(), Fail> {
     refused(&rt, &["", "f"])?;
     refused(&rt, &["f", "root"])?;
     refused(&rt, &["root", "f", "f"])?;
-    refused(&rt, &["show", "f"])
+    refused(&rt, &["show"])?;
+    refused(&rt, &["Show", "f"])?;
+    refused(&rt, &["show", "f", "f"])?;
+    refused(&rt, &["keygen", "f"])
 }
 
 // MTH by the recursion of RFC 9162, 2.1.1, going down at most so many levels.

@@ -5,11 +5,10 @@ use Rattle.std.specs.declared.option.Option.{Option}
 use Rattle.std.specs.Io.KnownBytes.{Appends}
 use Rattle.scitt_io.specs.Causes.{Rose}
 use Rattle.scitt_tool.specs.Answer.{Answer, Says}
-use Rattle.scitt_tool.specs.Command.{Command, Root, command_of}
+use Rattle.scitt_tool.specs.Command.{Command, command_of, file_name}
 use Rattle.scitt_tool.specs.Reads.{FileOf, Tells, ByFile, told_file, limit}
-use Rattle.scitt_tool.specs.Root.{RootOf}
-use Rattle.scitt_tool.specs.ToolText.{CommandText}
-use Rattle.scitt_tool.specs.Run.{IsDue, RootCompletes}
+use Rattle.scitt_tool.specs.ToolText.{CommandText, Judged}
+use Rattle.scitt_tool.specs.Run.{IsDue, Completes}
 
 -- the told file is the one that was judged
 told_is : (told : Option FileOf) (file_of : FileOf) (name bytes : List ℕ) → Tells told file_of → told_file told name ≡ Some bytes → file_of name ≡ Some bytes
@@ -21,12 +20,12 @@ short_file : (Judged : List ℕ → Answer → Type 0) (bytes : List ℕ) (answe
 short_file Judged bytes answer short (inl judged) = judged.1
 short_file Judged bytes answer short (inr long) = absurd (omega (arith, long.0))
 
-due_root : (words : List (List ℕ)) (file_of : FileOf) (before now : ℕ) (answer : Answer) (file bytes : List ℕ) → command_of words ≡ Some (Root file) → file_of file ≡ Some bytes
-    → length bytes ≤ limit → ¬ Rose before now → IsDue words file_of before now answer → RootOf bytes answer
-due_root words file_of before now answer file bytes command found short calm (inr fault) = absurd (calm fault.2)
-due_root words file_of before now answer file bytes command found short calm (inl text) =
-    let of_command : CommandText (Some (Root file)) file_of answer = subst (λ (c : Option Command). CommandText c file_of answer) command text in
-    short_file RootOf bytes answer short (subst (λ (f : Option (List ℕ)). ByFile RootOf f answer) found of_command)
+due_judged : (words : List (List ℕ)) (file_of : FileOf) (before now : ℕ) (answer : Answer) (command : Command) (bytes : List ℕ) → command_of words ≡ Some command → file_of (file_name command) ≡ Some bytes
+    → length bytes ≤ limit → ¬ Rose before now → IsDue words file_of before now answer → Judged command bytes answer
+due_judged words file_of before now answer command bytes is found short calm (inr fault) = absurd (calm fault.2)
+due_judged words file_of before now answer command bytes is found short calm (inl text) =
+    let of_command : CommandText (Some command) file_of answer = subst (λ (c : Option Command). CommandText c file_of answer) is text in
+    short_file (Judged command) bytes answer short (subst (λ (f : Option (List ℕ)). ByFile (Judged command) f answer) found of_command)
 
 said_whole : (answer : Answer) (old new : Option (List ℕ)) (before now status : ℕ) → ¬ Rose before now → Says answer old new before now status → (status ≡ answer.status) × Appends old new answer.text
 said_whole answer old new before now status calm says =
@@ -36,11 +35,11 @@ said_whole answer old new before now status calm says =
       | inr cut ↦ absurd (calm cut.2)
     ]
 
-pub root_completes : (words : List (List ℕ)) (told : Option FileOf) (file_of : FileOf) (files_before files_now : ℕ) (old new : Option (List ℕ)) (out_before out_now status : ℕ) (answer : Answer)
+pub completes : (words : List (List ℕ)) (told : Option FileOf) (file_of : FileOf) (files_before files_now : ℕ) (old new : Option (List ℕ)) (out_before out_now status : ℕ) (answer : Answer)
     → Tells told file_of → IsDue words file_of files_before files_now answer → Says answer old new out_before out_now status
-    → RootCompletes words told files_before files_now old new out_before out_now status
-root_completes words told file_of files_before files_now old new out_before out_now status answer tells due says =
-    λ file bytes command found short calm kept.
-    let root = due_root words file_of files_before files_now answer file bytes command (told_is told file_of file bytes tells found) short calm due in
+    → Completes words told files_before files_now old new out_before out_now status
+completes words told file_of files_before files_now old new out_before out_now status answer tells due says =
+    λ command bytes is found short calm kept.
+    let judged = due_judged words file_of files_before files_now answer command bytes is (told_is told file_of (file_name command) bytes tells found) short calm due in
     let said = said_whole answer old new out_before out_now status kept says in
-    inr (answer, root, said.0, said.1)
+    inr (answer, judged, said.0, said.1)

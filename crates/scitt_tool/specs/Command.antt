@@ -4,10 +4,19 @@ use Rattle.std.specs.Str.{bytes_eq}
 
 pub data Command : Type 0 where
   Root : (file : List ℕ) → Command
+  Show : (file : List ℕ) → Command
 
 -- the command that these words are, exactly
 abbrev pub command_of : List (List ℕ) → Option Command
 command_of [] = None
 command_of (name ∷ []) = None
-command_of (name ∷ file ∷ []) = if bytes_eq name (codes "root") then Some (Root file) else None
+command_of (name ∷ file ∷ []) =
+    if bytes_eq name (codes "root") then Some (Root file)
+    else (if bytes_eq name (codes "show") then Some (Show file)
+    else None)
 command_of (name ∷ first ∷ second ∷ rest) = None
+
+-- the file that a command reads
+abbrev pub file_name : Command → List ℕ
+file_name (Root file) = file
+file_name (Show file) = file

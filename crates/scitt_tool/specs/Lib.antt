@@ -5,6 +5,8 @@ pub mod Text
 pub mod Reads
 pub mod FaultText
 pub mod Root
+pub mod StopText
+pub mod Show
 pub mod ToolText
 pub mod Run
 pub mod Printed

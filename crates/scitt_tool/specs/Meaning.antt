@@ -1,7 +1,8 @@
 -- What the code's commands mean.
 use Rattle.scitt_tool.specs.declared.command.Command.{Command as Read}
-use Rattle.scitt_tool.specs.declared.command.Command.TheVariants.{Root as ReadRoot}
-use Rattle.scitt_tool.specs.Command.{Command, Root}
+use Rattle.scitt_tool.specs.declared.command.Command.TheVariants.{Root as ReadRoot, Show as ReadShow}
+use Rattle.scitt_tool.specs.Command.{Command, Root, Show}
 
 abbrev pub meaning : Read → Command
 meaning (ReadRoot file) = Root file.now
+meaning (ReadShow file) = Show file.now

@@ -4,10 +4,9 @@ use Rattle.std.specs.declared.option.Option.{Option}
 use Rattle.std.specs.Io.KnownBytes.{Appends}
 use Rattle.scitt_io.specs.Causes.{Rose}
 use Rattle.scitt_tool.specs.Answer.{Answer, Says, unread}
-use Rattle.scitt_tool.specs.Command.{Root, command_of}
+use Rattle.scitt_tool.specs.Command.{Command, command_of, file_name}
 use Rattle.scitt_tool.specs.Reads.{FileOf, Tells, told_file, limit}
-use Rattle.scitt_tool.specs.Root.{RootOf}
-use Rattle.scitt_tool.specs.ToolText.{ToolText}
+use Rattle.scitt_tool.specs.ToolText.{Judged, ToolText}
 
 -- what there is to answer: what words and files call for, or, to a command, a read fault, where the folder's count rose
 abbrev pub IsDue : List (List ℕ) → FileOf → ℕ → ℕ → Answer → Type 0
@@ -23,9 +22,10 @@ pub record Answers (words : List (List ℕ)) (told : Option FileOf) (files_befor
   pub due : IsDue words file_of files_before files_now answer
   pub says : Says answer old new out_before out_now status
 
--- `root` of a told file within the limit, where no count rises: the status and the text are by its bytes alone, unless memory is wanting.
-abbrev pub RootCompletes : List (List ℕ) → Option FileOf → ℕ → ℕ → Option (List ℕ) → Option (List ℕ) → ℕ → ℕ → ℕ → Type 0
-RootCompletes words told files_before files_now old new out_before out_now status =
-    (file bytes : List ℕ) → command_of words ≡ Some (Root file) → told_file told file ≡ Some bytes → length bytes ≤ limit
+-- A command on a told file within the limit, where no count rises: the status and the text are by its bytes alone, unless memory is
+-- wanting.
+abbrev pub Completes : List (List ℕ) → Option FileOf → ℕ → ℕ → Option (List ℕ) → Option (List ℕ) → ℕ → ℕ → ℕ → Type 0
+Completes words told files_before files_now old new out_before out_now status =
+    (command : Command) (bytes : List ℕ) → command_of words ≡ Some command → told_file told (file_name command) ≡ Some bytes → length bytes ≤ limit
     → ¬ Rose files_before files_now → ¬ Rose out_before out_now
-    → (status ≡ 5) ⊎ ((answer : Answer) × RootOf bytes answer × (status ≡ answer.status) × Appends old new answer.text)
+    → (status ≡ 5) ⊎ ((answer : Answer) × Judged command bytes answer × (status ≡ answer.status) × Appends old new answer.text)

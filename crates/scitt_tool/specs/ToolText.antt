@@ -1,14 +1,20 @@
 -- The status and the text that words and files call for.
 use Rattle.std.specs.Prelude.{◌≡◌, ℕ, List, Option, Some, None}
 use Rattle.scitt_tool.specs.Answer.{Answer, words_refused}
-use Rattle.scitt_tool.specs.Command.{Command, Root, command_of}
+use Rattle.scitt_tool.specs.Command.{Command, Root, Show, command_of, file_name}
 use Rattle.scitt_tool.specs.Reads.{FileOf, ByFile}
 use Rattle.scitt_tool.specs.Root.{RootOf}
+use Rattle.scitt_tool.specs.Show.{ShowOf}
+
+-- what a command answers of the bytes of its file
+abbrev pub Judged : Command → List ℕ → Answer → Type 0
+Judged (Root file) = RootOf
+Judged (Show file) = ShowOf
 
 -- what a command answers over these files
 abbrev pub CommandText : Option Command → FileOf → Answer → Type 0
 CommandText None file_of answer = answer ≡ words_refused
-CommandText (Some (Root file)) file_of answer = ByFile RootOf (file_of file) answer
+CommandText (Some command) file_of answer = ByFile (Judged command) (file_of (file_name command)) answer
 
 abbrev pub ToolText : List (List ℕ) → FileOf → Answer → Type 0
 ToolText words file_of answer = CommandText (command_of words) file_of answer

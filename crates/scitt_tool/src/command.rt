@@ -1,6 +1,6 @@
 ghost use Rattle.std.specs.Prelude.{◌≡◌, List, ℕ, Some, None};
 ghost use Rattle.std.specs.Option.{option_map};
-ghost use Rattle.scitt_tool.specs.Command.{command_of};
+ghost use Rattle.scitt_tool.specs.Command.{command_of, file_name};
 ghost use Rattle.scitt_tool.specs.Meaning.{meaning};
 
 use scitt_io::Words;
@@ -10,16 +10,32 @@ use scitt_io::Words;
 pub(crate) enum Command<'a> {
     /// `root FILE`
     Root { file: &'a str },
+    /// `show FILE`
+    Show { file: &'a str },
+}
+
+impl Command<'_> {
+    /// The file that the command reads.
+    pub fn file(&self) -> &str
+        ensures { result.now ≡ file_name (meaning self.now) }
+    {
+        match self {
+            Command::Root { file } | Command::Show { file } => file,
+        }
+    }
 }
 
 /// The command that these words are, exactly.
 pub(crate) fn command_of(words: &Words) -> Option<Command<'_>>
     ensures { option_map meaning result ≡ command_of words.now }
 {
-    if words.len() == 2 && words.word(0) == "root" {
-        return Some(Command::Root {
-            file: words.word(1),
-        });
+    if words.len() != 2 {
+        return None;
     }
-    None
+    let file = words.word(1);
+    match words.word(0) {
+        "root" => Some(Command::Root { file }),
+        "show" => Some(Command::Show { file }),
+        _ => None,
+    }
 }

@@ -8,7 +8,7 @@ use cbor_core::{Fault, Why};
 use std::alloc::{AllocError, Global};
 
 /// The name of a reason, as it is printed.
-fn why_text(why: Why) -> &'static str
+pub(crate) fn why_text(why: Why) -> &'static str
     ensures { result.now ≡ why_text why }
 {
     match why {

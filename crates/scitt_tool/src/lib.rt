@@ -8,6 +8,8 @@ mod file;
 mod printed;
 mod root;
 mod run;
+mod show;
+mod stop;
 
 pub use answer::Status;
 pub use run::run_tool;

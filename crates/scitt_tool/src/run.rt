@@ -3,12 +3,15 @@ ghost use Rattle.std.specs.Io.KnownBytes.{IsAtEnd};
 ghost use Rattle.scitt_io.specs.Causes.{Rose};
 ghost use Rattle.scitt_tool.specs.Command.{command_of};
 ghost use Rattle.scitt_tool.specs.Reads.{FileOf, Tells};
-ghost use Rattle.scitt_tool.specs.Run.{Answers, IsDue, RootCompletes};
+ghost use Rattle.scitt_tool.specs.Meaning.{meaning};
+ghost use Rattle.scitt_tool.specs.ToolText.{Judged};
+ghost use Rattle.scitt_tool.specs.Run.{Answers, IsDue, Completes};
 
 use crate::answer::{Answer, Status, too_long, unread, words_refused};
 use crate::command::{Command, command_of};
 use crate::file::read_file;
 use crate::root::root;
+use crate::show::show;
 use scitt_io::{Folder, ReadStop, Sink, Words};
 use std::alloc::{AllocError, Global};
 
@@ -40,7 +43,7 @@ pub fn run_tool<F: Folder, K: Sink>(
     ensures read_fault { result ≡ 3 → Rose (F.faults files.old) (F.faults files.new) }
     ensures no_read_fault { result ≢ 3 → result ≢ 4 → F.faults files.new ≡ F.faults files.old }
     ensures read_whole { result ≡ 0 → IsAtEnd (F.left files.new) }
-    ensures complete { RootCompletes words.now (F.files files.old) (F.faults files.old) (F.faults files.new)
+    ensures complete { Completes words.now (F.files files.old) (F.faults files.old) (F.faults files.new)
         (K.taken out.old) (K.taken out.new) (K.refused out.old) (K.refused out.new) result }
     ensures telling { is_some (K.taken out.new) ≡ is_some (K.taken out.old) }
 {
@@ -64,11 +67,22 @@ fn answer<F: Folder>(alloc: Global, words: &Words, files: &mut F) -> Result<Answ
 {
     match command_of(words) {
         None => Ok(words_refused()),
-        Some(Command::Root { file }) => match read_file(alloc, files, file) {
-            Ok(bytes) => root(alloc, &bytes),
+        Some(command) => match read_file(alloc, files, command.file()) {
+            Ok(bytes) => judge(alloc, &command, &bytes),
             Err(ReadStop::TooLong) => Ok(too_long()),
             Err(ReadStop::ReadFault) => Ok(unread()),
             Err(ReadStop::OutOfMemory) => Err(AllocError),
         },
+    }
+}
+
+/// What a command answers of the bytes of its file.
+fn judge(alloc: Global, command: &Command<'_>, bytes: &[u8]) -> Result<Answer, AllocError>
+    ensures judged { IfOk result (Judged (meaning command.now) bytes.now) }
+    ensures status { IfOk result (λ answer. answer.status ≤ 1) }
+{
+    match command {
+        Command::Root { .. } => root(alloc, bytes),
+        Command::Show { .. } => show(alloc, bytes),
     }
 }
