@@ -97,6 +97,35 @@ fn names_the_first_rule_that_fails(rt: HostRuntime) -> Result<(), Fail> {
     Ok(())
 }
 
+// Of two rules that a statement breaks, the earlier is named: crit stands before a payload that is nil, and a claim before the
+// length of the logged form.
+#[test]
+fn names_the_earlier_of_two(rt: HostRuntime) -> Result<(), Fail> {
+    let detached = hex::decode(rt.alloc(), "d2844ea302800441310fa2016170026170a0f640")?;
+    let (status, said) = run(rt.alloc(), &["show", "f"], &detached)?;
+    assert_eq!(rt; status, 1);
+    assert_eq!(rt; said.as_slice(), b"refused BadCrit\n".as_slice());
+    for (front, text) in [
+        (
+            "d2844ea20441010fa30161700261700520a05a00400000",
+            "refused BadClaim 5\n",
+        ),
+        (
+            "d2844ca20441010fa2016170026170a05a00400000",
+            "refused TooLarge\n",
+        ),
+    ] {
+        let mut bytes = hex::decode(rt.alloc(), front)?;
+        let len = bytes.len();
+        bytes.resize(len + 4_194_304, 0)?;
+        bytes.push(0x40)?;
+        let (status, said) = run(rt.alloc(), &["show", "f"], &bytes)?;
+        assert_eq!(rt; status, 1, "the status at {text}");
+        assert_eq!(rt; said.as_slice(), text.as_bytes(), "the text at {text}");
+    }
+    Ok(())
+}
+
 // A longer file than 16,777,216 bytes isn't judged.
 #[test]
 fn shows_no_longer_file(rt: HostRuntime) -> Result<(), Fail> {
