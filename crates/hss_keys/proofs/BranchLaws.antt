@@ -3,14 +3,10 @@ use Rattle.std.proofs.Common.{◌≡◌, ℕ, suc, ◌+◌, ◌/◌, ◌%◌, �
 use Rattle.std.specs.List.{between, sum_by}
 use Rattle.std.proofs.lemmas.List.{take_all}
 use Rattle.std.proofs.lemmas.Slice.{first_rest}
-use Rattle.lms_ots.specs.Chains.{secret}
-use Rattle.lms_ots.proofs.PartLaws.{length-part}
-use Rattle.lms_ots.proofs.OneTimeLaws.{length-secret}
 use Rattle.lms_tree.specs.declared.types.Level.{Level}
 use Rattle.lms_tree.specs.Types.{height, leaf_count, sig_len}
-use Rattle.lms_tree.specs.Nodes.{key_name}
 use Rattle.lms_tree.specs.Trees.{TreeKey}
-use Rattle.lms_tree.proofs.SignatureLaws.{length-lms_public, length-lms_sig}
+use Rattle.lms_tree.specs.Laws.{LmsLaws}
 use Rattle.hss_keys.specs.declared.branch.Child.{Child}
 use Rattle.std.specs.Prelude.{All}
 use Rattle.hss_keys.specs.Levels.{CanSign, capacity, below_len}
@@ -22,9 +18,9 @@ pub child_level : (level : Level) (key : TreeKey) (q : ℕ) → (child_key level
 unfolding child_key
 child_level level key q = refl
 
-pub child_named : (level : Level) (key : TreeKey) (q : ℕ) → length (child_key level key q).id ≡ 16
+pub child_named : LmsLaws → (level : Level) (key : TreeKey) (q : ℕ) → length (child_key level key q).id ≡ 16
 unfolding child_key
-child_named level key q = length-part (secret (key_name key.id q) 0xffff key.seed) 0 16 (omega (arith, length-secret (key_name key.id q) 0xffff key.seed))
+child_named lms level key q = lms.child_len key.id key.seed q
 
 pub length-IsBranch : (below : List Level) (key : TreeKey) (index : ℕ) (lower : List Child) → IsBranch key below index lower → length lower ≡ length below
 length-IsBranch [] key index lower h = ap length h
@@ -47,11 +43,11 @@ branch_opened key (level ∷ below) index (first ∷ rest) next child some h =
     let children : between 1 (length (first ∷ rest)) (first ∷ rest) ≡ rest = take_all _ rest (omega arith) in
     record { tree = h.0; signed = h.1; rest = rw (levels, children) h.2 }
 
-pub length-signed_child : (next : Level) (key : TreeKey) (q : ℕ) → length key.id ≡ 16 → q < leaf_count key.level → length (signed_child next key q) ≡ sig_len key.level + 56
-length-signed_child next key q named below =
+pub length-signed_child : LmsLaws → (next : Level) (key : TreeKey) (q : ℕ) → length key.id ≡ 16 → q < leaf_count key.level → length (signed_child next key q) ≡ sig_len key.level + 56
+length-signed_child lms next key q named below =
     let child = child_key next key q in
-    let public = length-lms_public child.level child.id child.seed (child_named next key q) in
-    let sig = length-lms_sig key.level key.id key.seed named q below (public_of child) in
+    let public = lms.public_len child.level child.id child.seed (child_named lms next key q) in
+    let sig = lms.len key.level key.id key.seed q (public_of child) named below in
     omega (arith, length-append (sig_of key q (public_of child)) (public_of child), public, sig)
 
 -- levels below, by their first one

@@ -3,3 +3,4 @@ pub mod PartsRead
 pub mod CapacityLaws
 pub mod BranchLaws
 pub mod HssLaws
+pub mod IndexLaws

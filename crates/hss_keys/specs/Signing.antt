@@ -1,18 +1,17 @@
 -- The keys and signatures of this project's signer (RFC 8554, 6.1 and 6.2).
 use Rattle.std.specs.Prelude.{ℕ, ◌/◌, ◌%◌, List, [], ◌∷◌, ◌++◌, length}
-use Rattle.lms_ots.specs.Words.{u32str, part}
-use Rattle.lms_ots.specs.Chains.{secret}
+use Rattle.lms_ots.specs.Words.{u32str}
 use Rattle.lms_tree.specs.declared.types.Level.{Level}
-use Rattle.lms_tree.specs.Nodes.{key_name, lms_public, lms_sig}
+use Rattle.lms_tree.specs.Nodes.{child_id, child_seed, lms_public, lms_sig}
 use Rattle.lms_tree.specs.Trees.{TreeKey}
 use Rattle.hss_keys.specs.Levels.{capacity}
 
--- the tree below leaf q: its identifier and its seed are secrets of that leaf
+-- the tree below leaf q
 unfoldable pub child_key : Level → TreeKey → ℕ → TreeKey
 child_key level key q = record {
   level = level;
-  id = part (secret (key_name key.id q) 0xffff key.seed) 0 16;
-  seed = secret (key_name key.id q) 0xfffe key.seed;
+  id = child_id key.id key.seed q;
+  seed = child_seed key.id key.seed q;
 }
 
 abbrev pub public_of : TreeKey → List ℕ

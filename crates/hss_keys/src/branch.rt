@@ -2,7 +2,6 @@
 
 ghost use Rattle.std.specs.Prelude.{◌≡◌, ◌⊎◌, ℕ, ◌+◌, ◌/◌, ◌%◌, ◌<◌, ◌≤◌, ◌∷◌, ◌++◌, IfOk, OnOk, OnErr, List, All, length, take};
 ghost use Rattle.std.specs.List.{sum_by};
-ghost use Rattle.lms_ots.specs.Words.{part};
 ghost use Rattle.lms_tree.specs.Types.{height, leaf_count, sig_len};
 ghost use Rattle.lms_tree.specs.Nodes.{lms_public};
 ghost use Rattle.hss_keys.specs.Levels.{CanSign, below_len, capacity};
@@ -11,7 +10,7 @@ ghost use Rattle.hss_keys.specs.Signing.{below_sig, child_key, public_of, sig_of
 
 use crate::levels::capacity;
 use lms_ots::put;
-use lms_tree::{Level, OutOfMemory, Tree, lms_sig_len};
+use lms_tree::{Level, OutOfMemory, Tree, lms_law, lms_sig_len};
 use std::alloc::Global;
 
 /// A tree below another one, with the other's signature on its key, and that key.
@@ -24,21 +23,12 @@ pub struct Child {
 // The tree of this level below leaf `q` of `parent`.
 #[tactic(auto, unfolding(crate::specs::Signing::child_key))]
 fn child_tree(alloc: Global, level: Level, parent: &Tree, q: u32) -> Result<Tree, OutOfMemory>
-    requires { CanSign level }
+    requires sized { CanSign level }
+    requires leaf { q < leaf_count parent.now.level }
     ensures { IfOk result (λ tree. tree ≡ child_key level parent.now q) }
 {
-    let seed = parent.secret(q, 0xfffe);
-    Tree::build(alloc, level, id_of(&parent.secret(q, 0xffff)), seed)
-}
-
-// The first 16 bytes.
-#[tactic(auto, unfolding(lms_ots::specs::Words::part))]
-fn id_of(secret: &[u8; 32]) -> [u8; 16]
-    ensures { result ≡ part secret.now 0 16 }
-{
-    let mut id = [0; 16];
-    id.copy_from_slice(&secret[..16]);
-    id
+    let below = parent.child(q);
+    Tree::build(alloc, level, below.id, below.seed)
 }
 
 // The signature of leaf `q` of `parent` on the key, and the key.
@@ -160,6 +150,7 @@ pub(crate) fn write_below(
         tree.sign_into(leaf_of(tree.level(), below, index), msg, buf);
         return;
     }
+    lms_law();
     let child = &lower[0];
     let end = put(buf, 0, &child.signed);
     let rest = rest_of(below, index);

@@ -7,7 +7,7 @@ ghost use Rattle.hss_keys.specs.Levels.{capacity};
 ghost use Rattle.hss_keys.specs.Verifies.{FlatIndex, IndexBelow, IsAbove};
 
 use crate::levels::{Levels, capacity};
-use lms_ots::u32_at;
+use lms_ots::{u32_at, word_law};
 use lms_tree::{Level, has_types, level_at, lms_sig_len};
 
 /// The index that the leaf numbers of `sig` spell under these levels; `None` where and only where `sig`
@@ -38,6 +38,7 @@ fn index_below(level: Level, below: &[Level], sig: &[u8]) -> Option<u64>
     if !is_above(level, below[0], sig) {
         return None;
     }
+    word_law();
     let rest = &sig[lms_sig_len(level) + 56..];
     let low = index_below(below[0], &below[1..], rest)?;
     Some(u64::from(u32_at(sig, 0)) * capacity(below) + low)

@@ -7,6 +7,7 @@ ghost use Rattle.hss_keys.specs.Signers.{IsSigner, SignerKey, hss_sig_len};
 ghost use Rattle.hss_keys.specs.Verifies.{FlatIndex, HssVerifies};
 
 use crate::branch::{Child, grow, regrow, write_below};
+use crate::laws::hss_law;
 use crate::levels::{Levels, capacity};
 use crate::verifying::Key60;
 use lms_ots::{Hash, put, u32str};
@@ -114,6 +115,7 @@ impl Signer {
         ensures verifies { HssVerifies (hss_public self.now.levels self.now.id self.now.seed) buf.new msg.now }
         ensures index { FlatIndex self.now.levels buf.new index }
     {
+        hss_law();
         write_signature(
             self.levels.as_slice(),
             &self.top,

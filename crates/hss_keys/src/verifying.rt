@@ -5,7 +5,7 @@ ghost use Rattle.lms_ots.specs.Words.{part, u32_at};
 ghost use Rattle.lms_tree.specs.Types.{level_at};
 ghost use Rattle.hss_keys.specs.Verifies.{HssVerifies, VerifiesBelow};
 
-use lms_ots::u32_at;
+use lms_ots::{u32_at, word_law};
 use lms_tree::{level_at, lms_sig_len, verify};
 
 /// The bytes of an HSS public key: the number of levels, and the LMS public key of the top tree.
@@ -57,6 +57,7 @@ fn public_at(bytes: &[u8], at: usize) -> [u8; 56]
 pub fn hss_verify(key: &Key60, msg: &[u8], sig: &[u8]) -> bool
     ensures { IsTrue result ↔ HssVerifies key.now sig.now msg.now }
 {
+    word_law();
     match HssPublic::read(key) {
         None => false,
         Some(public) => {
@@ -71,6 +72,7 @@ pub fn hss_verify(key: &Key60, msg: &[u8], sig: &[u8]) -> bool
 fn verify_below(count: u32, public: &[u8; 56], msg: &[u8], sig: &[u8]) -> bool
     ensures { IsTrue result ↔ VerifiesBelow count public.now sig.now msg.now }
 {
+    word_law();
     if count == 0 {
         return verify(public, sig, msg);
     }

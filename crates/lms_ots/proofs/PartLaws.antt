@@ -1,6 +1,6 @@
 -- Parts of joined byte strings, and words in them.
 use Rattle.std.proofs.Common.{◌≡◌, ℕ, zero, suc, ◌+◌, ◌*◌, ◌^◌, ◌<◌, ◌≤◌, inl, inr, List, ◌++◌, length, get_or, take, drop, refl, ap, sym, subst, ◌∙◌, arith, add-zero, append_assoc, length-append, length-take, length-drop}
-use Rattle.std.proofs.lemmas.List.{take_at, take_all, take-append-le, drop_at, drop-append-le, drop-drop, get_or-append-add}
+use Rattle.std.proofs.lemmas.List.{take_at, take_all, take-append-le, drop_at, drop-append-le, drop-drop, get_or-append-add, get_or-take, get_or-drop}
 use Rattle.std.proofs.lemmas.Nat.{from_be_bytes-to_be_bytes_4}
 use Rattle.std.proofs.lemmas.Bool.{cases_lt}
 use Rattle.std.proofs.Math.Nat.{mul-le-mul_left}
@@ -27,6 +27,17 @@ u32_at-behind front rest k h =
     let at = λ (j : ℕ). subst (λ (n : ℕ). get_or (front ++ rest) (n + j) 0 ≡ get_or rest j 0) h (get_or-append-add front rest j 0) in
     let at0 = rw add-zero at (at 0) in
     rw (at0, at 1, at 2, at 3) refl
+
+-- a word in a part
+pub u32_at-within : (s : List ℕ) (k n j : ℕ) → j + 4 ≤ n → u32_at (part s k n) j ≡ u32_at s (k + j)
+unfolding u32_at part
+u32_at-within s k n j h =
+    let at : (i : ℕ) → i < 4 → get_or (take n (drop k s)) (j + i) 0 ≡ get_or s (k + j + i) 0 =
+    λ i below.
+    let same : k + (j + i) ≡ k + j + i = omega arith in
+    get_or-take n (drop k s) (j + i) 0 (omega arith) ∙ rw same at (get_or-drop k s (j + i) 0) in
+    let at0 : get_or (take n (drop k s)) j 0 ≡ get_or s (k + j) 0 = get_or-take n (drop k s) j 0 (omega arith) ∙ get_or-drop k s j 0 in
+    rw (at0, at 1 (omega arith), at 2 (omega arith), at 3 (omega arith)) refl
 
 pub length-part : (s : List ℕ) (k n : ℕ) → k + n ≤ length s → length (part s k n) ≡ n
 unfolding part

@@ -3,3 +3,4 @@ pub mod Parameters
 pub mod Chains
 pub mod Digits
 pub mod OneTime
+pub mod Laws

@@ -3,19 +3,19 @@ use Rattle.std.specs.Prelude.{ℕ, ◌+◌, List, [], ◌∷◌, take, drop, sli
 use Rattle.std.specs.Int.{w16, w32, to_be_bytes, from_be_bytes}
 use Rattle.std.specs.List.{flat_map, range_with_len}
 
--- u8str(x): one byte (3.1.1)
+-- u8str(x): one byte (3.1)
 abbrev pub u8str : ℕ → List ℕ
 u8str x = x ∷ []
 
--- u16str(x): two bytes, the high one first (3.1.1)
+-- u16str(x): two bytes, the high one first (3.1)
 unfoldable pub u16str : ℕ → List ℕ
 u16str x = to_be_bytes w16 x
 
--- u32str(x): four bytes, the high one first (3.1.1)
+-- u32str(x): four bytes, the high one first (3.1)
 unfoldable pub u32str : ℕ → List ℕ
 u32str x = to_be_bytes w32 x
 
--- strTou32 of the four bytes of s from k on (3.1.1)
+-- strTou32 of the four bytes of s from k on (3.1)
 unfoldable pub u32_at : List ℕ → ℕ → ℕ
 u32_at s k = from_be_bytes w32
     (slice_index s k ∷ slice_index s (k + 1) ∷ slice_index s (k + 2) ∷ slice_index s (k + 3) ∷ [])

@@ -39,11 +39,20 @@ fn link(at: &OtsAt, tag: [u8; 2], j: u8, x: &Hash) -> Hash
 }
 
 #[tactic(auto, unfolding(crate::specs::Chains::secret))]
-/// Secret `i` of the one-time key `at` under the seed (RFC 8554, appendix A).
-pub fn ots_secret(at: &OtsAt, i: u16, seed: &Hash) -> Hash
+// Secret `i` of the one-time key `at` under the seed (RFC 8554, appendix A).
+pub(crate) fn ots_secret(at: &OtsAt, i: u16, seed: &Hash) -> Hash
     ensures { result ≡ secret at.now i seed.now }
 {
     link(at, u16str(i), 0xff, seed)
+}
+
+/// The secret of the one-time key `at` under the seed with a number that no chain has, which is 265
+/// or more (RFC 8554, appendix A).
+pub fn spare_secret(at: &OtsAt, i: u16, seed: &Hash) -> Hash
+    requires { 265 ≤ i }
+    ensures { result ≡ secret at.now i seed.now }
+{
+    ots_secret(at, i, seed)
 }
 
 // The hash of the 22 bytes that the block begins with, the byte `j` and 32 bytes; the block keeps

@@ -12,8 +12,8 @@ mod parameters;
 mod table;
 mod words;
 
-pub use chains::{OtsAt, ots_secret, prefix};
-pub use laws::ots_law;
+pub use chains::{OtsAt, prefix, spare_secret};
+pub use laws::{ots_law, word_law};
 pub use one_time::{OtsStop, ots_key_into, ots_public_from, ots_sign_into};
 pub use parameters::{OtsParameters, OtsType};
 pub use table::{ots_sig_len, ots_type};

@@ -1,8 +1,9 @@
 -- The path of a signature, hash by hash.
-use Rattle.std.proofs.Common.{◌≡◌, ℕ, ◌+◌, ◌*◌, ◌/◌, ◌<◌, List, [], ◌∷◌, length, get_or, drop, refl, ap, ◌∙◌, arith}
-use Rattle.std.proofs.lemmas.List.{drop_more, drop_all}
+use Rattle.std.proofs.Common.{◌≡◌, ℕ, ◌+◌, ◌*◌, ◌/◌, ◌<◌, List, [], ◌∷◌, ◌++◌, length, get_or, drop, refl, ap, sym, ◌∙◌, arith, append_assoc}
+use Rattle.std.proofs.lemmas.List.{append-nil, drop_more, drop_all}
 use Rattle.std.proofs.lemmas.List.FromFn.{length-map-range_with_len, get_or-map-range_with_len}
-use Rattle.lms_ots.specs.Words.{part}
+use Rattle.lms_ots.specs.Words.{part, joined}
+use Rattle.lms_ots.specs.Laws.{WordLaws}
 use Rattle.lms_tree.specs.Verifies.{above, hashes, root_from}
 
 pub length-hashes : (s : List ℕ) (k n : ℕ) → length (hashes s k n) ≡ n
@@ -29,3 +30,12 @@ root_from_next id r value beside path = refl
 pub root_from_ended : (id : List ℕ) (r : ℕ) (value : List ℕ) → root_from id r value [] ≡ value
 unfolding root_from
 root_from_ended id r value = refl
+
+-- a path that is written behind `before`: none of it, and one hash more
+module _ (words : WordLaws) (before : List ℕ) (path : ℕ → List ℕ) where
+  pub path_begun : before ≡ before ++ joined path 0
+  path_begun = sym (ap (λ xs. before ++ xs) (words.joined_none path) ∙ append-nil before)
+
+  pub path_longer : (n : ℕ) (x : List ℕ) → x ≡ path n → (before ++ joined path n) ++ x ≡ before ++ joined path (n + 1)
+  path_longer n x e =
+      append_assoc before (joined path n) x ∙ ap (λ xs. before ++ xs) (ap (λ y. joined path n ++ y) e ∙ sym (words.joined_more path n))

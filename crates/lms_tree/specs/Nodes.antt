@@ -2,9 +2,9 @@
 use Rattle.std.specs.Prelude.{ℕ, zero, suc, ◌+◌, ◌-◌, ◌*◌, ◌/◌, ◌%◌, ◌^◌, List, [], ◌∷◌, ◌++◌}
 use Rattle.sha2.specs.Sha256.{sha256}
 use Rattle.lms_ots.specs.declared.chains.OtsAt.{OtsAt}
-use Rattle.lms_ots.specs.Words.{u32str, joined}
+use Rattle.lms_ots.specs.Words.{u32str, part, joined}
 use Rattle.lms_ots.specs.Parameters.{parameters}
-use Rattle.lms_ots.specs.Chains.{prefix}
+use Rattle.lms_ots.specs.Chains.{prefix, secret}
 use Rattle.lms_ots.specs.OneTime.{ots_key, ots_sig}
 use Rattle.lms_tree.specs.declared.types.Level.{Level}
 use Rattle.lms_tree.specs.Types.{lms_parameters, height, leaf_count}
@@ -19,6 +19,15 @@ d_intr = 0x83 ∷ 0x83 ∷ []
 -- the one-time key number q of the tree id
 abbrev pub key_name : List ℕ → ℕ → OtsAt
 key_name id q = record { id = id; q = q }
+
+-- the identifier of the tree below leaf q of this project's signer: the first 16 bytes of the secret
+-- ffff of that leaf (secrets, appendix A)
+unfoldable pub child_id : List ℕ → List ℕ → ℕ → List ℕ
+child_id id seed q = part (secret (key_name id q) 0xffff seed) 0 16
+
+-- the seed of that tree: the secret fffe of the leaf
+unfoldable pub child_seed : List ℕ → List ℕ → ℕ → List ℕ
+child_seed id seed q = secret (key_name id q) 0xfffe seed
 
 -- T[r] at a leaf, from its one-time key (5.3): H(I || u32str(r) || D_LEAF || K)
 unfoldable pub leaf : List ℕ → ℕ → List ℕ → List ℕ

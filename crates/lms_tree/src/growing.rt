@@ -9,7 +9,7 @@ ghost use Rattle.lms_tree.specs.Trees.{HoldsNodes};
 use crate::nodes::{leaf, parent};
 use crate::table::{height, leaf_count};
 use crate::types::Level;
-use lms_ots::{Hash, OtsAt, ots_key_into, put};
+use lms_ots::{Hash, OtsAt, ots_key_into, put, word_law};
 
 // Writes all nodes of the tree, each at the place of its number.
 pub(crate) fn fill(nodes: &mut [Hash], level: Level, id: [u8; 16], seed: &Hash)
@@ -61,6 +61,7 @@ pub(crate) fn write_path(nodes: &[Hash], level: Level, q: u32, buf: &mut [u8], s
         → take (start + 32 * height level) buf.new
         ≡ take start buf.old ++ joined (path_node level id seed q) (height level) }
 {
+    word_law();
     let mut number = leaf_count(level) + q;
     let mut place = start;
     for _ in 0..height(level) {

@@ -11,6 +11,6 @@ mod verifying;
 
 pub use laws::lms_law;
 pub use table::{height, leaf_count, level_at, lms_sig_len, lms_type};
-pub use tree::{OutOfMemory, Tree};
+pub use tree::{OutOfMemory, Tree, TreeSeed};
 pub use types::{Level, LmsParameters, LmsType};
 pub use verifying::{has_types, verify};

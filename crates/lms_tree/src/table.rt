@@ -1,6 +1,7 @@
 // Types by their codes, and what follows from a level's types.
 
 ghost use Rattle.std.specs.Prelude.{◌≡◌, ◌≢◌, ◌≤◌, ◌+◌, ◌^◌, ◌<◌, ℕ, length, IfSome, IfNone};
+ghost use Rattle.lms_ots.specs.Words.{part};
 ghost use Rattle.lms_tree.specs.Types.{height, leaf_count, level_at, lms_parameters, lms_type_of_code, sig_len};
 ghost use Rattle.lms_tree.specs.declared.types.LmsType.{LmsType};
 
@@ -56,4 +57,15 @@ pub fn level_at(bytes: &[u8], at: usize) -> Option<Level>
     let lms = lms_type(u32_at(bytes, at))?;
     let ots = ots_type(u32_at(bytes, at + 4))?;
     Some(Level { lms, ots })
+}
+
+// The identifier that stands in `bytes` from byte `at` on.
+#[tactic(auto, unfolding(lms_ots::specs::Words::part))]
+pub(crate) fn id_at(bytes: &[u8], at: usize) -> [u8; 16]
+    requires { at + 16 ≤ length bytes.now }
+    ensures { result ≡ part bytes.now at 16 }
+{
+    let mut id = [0; 16];
+    id.copy_from_slice(&bytes[at..at + 16]);
+    id
 }

@@ -2,22 +2,31 @@
 
 ghost use Rattle.std.specs.Prelude.{◌≡◌, ◌⊎◌, ◌+◌, ◌*◌, ◌<◌, ◌≤◌, ◌++◌, IfOk, length, take};
 ghost use Rattle.lms_ots.specs.Parameters.{parameters};
-ghost use Rattle.lms_ots.specs.Chains.{secret};
 ghost use Rattle.lms_ots.specs.OneTime.{ots_sig};
 ghost use Rattle.lms_tree.specs.Types.{height, leaf_count, sig_len};
-ghost use Rattle.lms_tree.specs.Nodes.{key_name, lms_public, lms_sig};
+ghost use Rattle.lms_tree.specs.Nodes.{child_id, child_seed, lms_public, lms_sig};
 ghost use Rattle.lms_tree.specs.Verifies.{LmsVerifies};
 ghost use Rattle.lms_tree.specs.Trees.{IsTree, TreeKey};
 
 use crate::growing::{fill, write_path};
-use crate::table::leaf_count;
+use crate::laws::lms_law;
+use crate::table::{id_at, leaf_count};
 use crate::types::Level;
-use lms_ots::{Hash, OtsAt, OtsType, ots_secret, ots_sig_len, ots_sign_into, put, u32str};
+use lms_ots::{Hash, OtsAt, OtsType, ots_sig_len, ots_sign_into, put, spare_secret, u32str};
 use std::alloc::{AllocError, Global};
 use std::marker::Model;
 
 /// Want of memory.
 pub type OutOfMemory = AllocError;
+
+/// What the tree below a leaf is made from.
+#[derive(Clone, Copy)]
+pub struct TreeSeed {
+    /// I, the identifier of that tree.
+    pub id: [u8; 16],
+    /// The seed of its secrets.
+    pub seed: Hash,
+}
 
 /// A tree of one-time keys, with all its nodes. A contract sees its level, its identifier I and its
 /// seed.
@@ -73,11 +82,19 @@ impl Tree {
         self.level
     }
 
-    /// Secret `i` of the one-time key of leaf `q` (RFC 8554, appendix A).
-    pub fn secret(&self, q: u32, i: u16) -> Hash
-        ensures { result ≡ secret (key_name self.now.id q) i self.now.seed }
+    /// The identifier and the seed of the tree below leaf `q`, from secrets of that leaf whose numbers
+    /// no chain has (RFC 8554, appendix A).
+    #[tactic(auto, unfolding(crate::specs::Nodes::child_id, crate::specs::Nodes::child_seed))]
+    pub fn child(&self, q: u32) -> TreeSeed
+        requires { q < leaf_count self.now.level }
+        ensures id { result.id ≡ child_id self.now.id self.now.seed q }
+        ensures seed { result.seed ≡ child_seed self.now.id self.now.seed q }
     {
-        ots_secret(&OtsAt { id: self.id, q }, i, &self.seed)
+        let at = OtsAt { id: self.id, q };
+        TreeSeed {
+            id: id_at(&spare_secret(&at, 0xffff, &self.seed), 0),
+            seed: spare_secret(&at, 0xfffe, &self.seed),
+        }
     }
 
     /// Writes the signature of leaf `q` on `msg` into `buf`, which has the level's length. It
@@ -88,6 +105,7 @@ impl Tree {
         ensures written { buf.new ≡ lms_sig self.now.level self.now.id self.now.seed q msg.now }
         ensures verifies { LmsVerifies (lms_public self.now.level self.now.id self.now.seed) buf.new msg.now }
     {
+        lms_law();
         let at = OtsAt { id: self.id, q };
         let q_end = put(buf, 0, &u32str(q));
         let ots_end = write_ots(self.level.ots, &at, &self.seed, msg, buf, q_end);

@@ -2,13 +2,12 @@
 
 ghost use Rattle.std.specs.Prelude.{◌≡◌, ◌↔◌, ◌+◌, ◌*◌, ◌<◌, ◌≤◌, IsTrue, length};
 ghost use Rattle.lms_tree.specs.Types.{level_at};
-ghost use Rattle.lms_ots.specs.Words.{part};
 ghost use Rattle.lms_tree.specs.Verifies.{HasTypes, LmsVerifies, above, hashes, root_from, root_of_sig};
 
 use crate::nodes::{leaf, parent};
-use crate::table::{height, leaf_count, level_at, lms_sig_len};
+use crate::table::{height, id_at, leaf_count, level_at, lms_sig_len};
 use crate::types::Level;
-use lms_ots::{Hash, OtsAt, hash_at, ots_public_from, ots_sig_len, u32_at};
+use lms_ots::{Hash, OtsAt, hash_at, ots_law, ots_public_from, ots_sig_len, u32_at, word_law};
 
 // The node above `r`, from the value of `r` and that of the node beside it.
 fn above(id: [u8; 16], r: u32, value: &Hash, beside: &Hash) -> Hash
@@ -55,8 +54,7 @@ fn verify_at(level: Level, public: &[u8; 56], sig: &[u8], msg: &[u8]) -> bool
     if !has_types(level, sig) {
         return false;
     }
-    let id = id_of(public);
-    root_of(level, id, sig, msg) == hash_at(public, 24)
+    root_of(level, id_at(public, 8), sig, msg) == hash_at(public, 24)
 }
 
 /// Tells whether the length and the type codes of `sig` are those of the level, and q is the number of
@@ -72,20 +70,14 @@ pub fn has_types(level: Level, sig: &[u8]) -> bool
         && u32_at(sig, 0) < leaf_count(level)
 }
 
-fn id_of(public: &[u8; 56]) -> [u8; 16]
-    ensures { result ≡ part public.now 8 16 }
-{
-    let mut id = [0; 16];
-    id.copy_from_slice(&public[8..24]);
-    id
-}
-
 // The root from the candidate key of the signature and its path.
 #[tactic(auto, unfolding(crate::specs::Verifies::root_of_sig))]
 fn root_of(level: Level, id: [u8; 16], sig: &[u8], msg: &[u8]) -> Hash
     requires { HasTypes level sig.now }
     ensures { result ≡ root_of_sig level id sig.now msg.now }
 {
+    word_law();
+    ots_law();
     let q = u32_at(sig, 0);
     let ots_end = 4 + ots_sig_len(level.ots);
     let key = ots_public_from(&OtsAt { id, q }, &sig[4..ots_end], msg).unwrap();

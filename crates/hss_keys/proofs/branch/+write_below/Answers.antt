@@ -12,7 +12,7 @@ use Rattle.hss_keys.specs.Signing.{signed_child, below_sig}
 use Rattle.hss_keys.proofs.CapacityLaws.{capacity-nil, leaf_below}
 use Rattle.hss_keys.proofs.BranchLaws.{child_level, child_named, small_rest, index_rest, len_rest, Opened, branch_opened, length-IsBranch, length-signed_child, below_sig-nil, below_sig-split}
 use Rattle.hss_keys.proofs.branch.+write_below.Goals as goal
-use Rattle.hss_keys.proofs.branch.+write_below.Goals.{Else-is_empty, After-deref}
+use Rattle.hss_keys.proofs.branch.+write_below.Goals.{After-deref}
 
 pub returns-then-is_empty : goal.returns-then-is_empty
 returns-then-is_empty t c =
@@ -23,12 +23,9 @@ returns-then-is_empty t c =
     let written = rw q at c.sign_into.ensures.written in
     written ∙ sym (below_sig-nil c.args.tree.now index c.args.msg.now) ∙ ap (λ (b : List Level). below_sig c.args.tree.now b index c.args.msg.now) (sym none)
 
-some_below : (t : ℕ) (c : Else-is_empty t) → 0 < length c.args.below.now
-some_below t c = search (rules, tests)
-
 pub bounds-lower-0 : goal.bounds-lower-0
 bounds-lower-0 t c =
-    let some = some_below t c in
+    let some : 0 < length c.args.below.now = search (rules, tests) in
     omega (arith, length-IsBranch c.args.below.now c.args.tree.now c.args.index c.args.lower.now c.requires.held, some)
 
 -- the first tree below, as it was read
@@ -44,7 +41,7 @@ signed_len t c =
     let below = c.args.below.now in
     let key = c.args.tree.now in
     let signed = c.deref.ensures.value ∙ (first_below t c).signed in
-    ap length signed ∙ length-signed_child (get_or below 0 d) key (c.args.index / capacity below) c.requires.named (leaf_below key.level below c.args.index c.requires.index)
+    ap length signed ∙ length-signed_child c.lms_law.ensures (get_or below 0 d) key (c.args.index / capacity below) c.requires.named (leaf_below key.level below c.args.index c.requires.index)
 
 pub put-end-requires : goal.put-end-requires
 put-end-requires t c =
@@ -65,7 +62,7 @@ write_below-requires t c =
     let end = signed_len t (goal.at.write_below-requires t c).After-deref in (
       search rules,
       (
-        rw opened.tree (child_named next key (c.args.index / capacity below)),
+        rw opened.tree (child_named c.lms_law.ensures next key (c.args.index / capacity below)),
         (
           rw lvl (small_rest below d some key.level c.requires.small),
           (

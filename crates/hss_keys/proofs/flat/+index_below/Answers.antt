@@ -7,7 +7,6 @@ use Rattle.lms_tree.specs.declared.types.LmsType.TheVariants.{H5}
 use Rattle.lms_tree.specs.declared.types.Level.{Level}
 use Rattle.lms_tree.specs.Types.{leaf_count, sig_len}
 use Rattle.hss_keys.specs.Levels.{capacity}
-use Rattle.hss_keys.proofs.PartsRead.{u32_at-within}
 use Rattle.hss_keys.proofs.CapacityLaws.{index_fits, capacity_small}
 use Rattle.hss_keys.proofs.flat.+index_below.Goals as goal
 use Rattle.hss_keys.proofs.flat.+index_below.Goals.{After-capacity}
@@ -16,7 +15,7 @@ within : (t : ℕ) (c : After-capacity t) → c.from.result * c.capacity.result 
 within t c =
     let below = c.args.below.now in
     let types = (c.is_above.ensures.0 c.if-not-is_above.false).types in
-    let read = u32_at-within c.args.sig.now 0 (sig_len c.args.level) 0 (omega arith) in
+    let read = c.word_law.ensures.word_within c.args.sig.now 0 (sig_len c.args.level) 0 (omega arith) in
     let leaf : u32_at c.args.sig.now 0 < leaf_count c.args.level = rw read at types.leaf in
     let d : Level = record { lms = H5; ots = W1 } in
     let some : 0 < length below = search (rules, tests) in

@@ -10,7 +10,7 @@ pub returns-then-sig-len : goal.returns-then-sig-len
 returns-then-sig-len t c = (
   λ h. cc,
   λ v.
-      let open_ = step_opened c.args.count c.args.public.now c.args.sig.now c.args.msg.now c.in-Some.level (omega arith) (sym c.in-Some.ensures) v in
+      let open_ = step_opened c.word_law.ensures c.args.count c.args.public.now c.args.sig.now c.args.msg.now c.in-Some.level (omega arith) (sym c.in-Some.ensures) v in
       absurd (omega (arith, open_.0, c.lms_sig_len-len.ensures.value)),
 )
 
@@ -25,7 +25,7 @@ returns-then-verify t c =
     let below = rw (between_to_end sig (n + 56) (length sig) (omega arith), c.public_at-next.ensures) at c.verify_below.ensures in (
       λ h. step_closed c.args.count c.args.public.now sig c.args.msg.now n (omega arith) room (record { signed = signed; below = below.0 h }),
       λ v.
-          let open_ = step_opened c.args.count c.args.public.now sig c.args.msg.now c.in-Some.level (omega arith) (sym c.in-Some.ensures) v in
+          let open_ = step_opened c.word_law.ensures c.args.count c.args.public.now sig c.args.msg.now c.in-Some.level (omega arith) (sym c.in-Some.ensures) v in
           below.1 (rw e open_.1.below),
     )
 
@@ -37,6 +37,6 @@ returns-else-verify t c =
     let signed = rw c.public_at-next.ensures at c.verify-in-Some.ensures in (
       λ h. cc,
       λ v.
-          let open_ = step_opened c.args.count c.args.public.now sig c.args.msg.now c.in-Some.level (omega arith) (sym c.in-Some.ensures) v in
+          let open_ = step_opened c.word_law.ensures c.args.count c.args.public.now sig c.args.msg.now c.in-Some.level (omega arith) (sym c.in-Some.ensures) v in
           signed.1 (rw c.lms_sig_len-len.ensures.value open_.1.signed),
     )

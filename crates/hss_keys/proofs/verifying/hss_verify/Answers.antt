@@ -12,7 +12,7 @@ returns-in-None c =
       λ h. cc,
       λ v.
           let named = level_named (u32_at c.args.sig.now 0) (part key 4 56) _ _ v.levels in
-          let known : level_at key 4 ≡ Some named.0 = sym (level_at-within key 4 56 (omega arith)) ∙ named.1 in
+          let known : level_at key 4 ≡ Some named.0 = sym (level_at-within c.word_law.ensures key 4 56 (omega arith)) ∙ named.1 in
           let some : IsSome (level_at key 4) = rw known refl in
           let found = c.read.ensures.some.1 (v.some, v.most, some) in
           rw c.in-None.is at found,

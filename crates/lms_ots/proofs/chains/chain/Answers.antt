@@ -1,5 +1,5 @@
 -- One step of the code is one step of the chain.
-use Rattle.std.proofs.Common.{◌≡◌, ◌<◌, ℕ, ◌∙◌, ap, sym, subst, refl, take, arith, rules}
+use Rattle.std.proofs.Common.{◌≡◌, ℕ, ◌∙◌, ap, sym, subst, refl, take, arith, rules}
 use Rattle.lms_ots.specs.Words.{u16str}
 use Rattle.lms_ots.specs.Chains.{step, prefix}
 use Rattle.lms_ots.proofs.ChainLaws.{chain_more, chain_ended}

@@ -1,10 +1,10 @@
 -- Each turn writes one node of the path.
-use Rattle.std.proofs.Common.{◌≡◌, ◌+◌, ◌/◌, ◌^◌, ◌<◌, ◌∙◌, ◌++◌, sym, ap, take, suc, [], get_or, length, arith}
+use Rattle.std.proofs.Common.{◌≡◌, ◌+◌, ◌/◌, ◌^◌, ◌<◌, ◌∙◌, ◌++◌, ap, take, suc, [], get_or, length, arith}
 use Rattle.std.proofs.Math.Nat.{div-one, div-le_self}
-use Rattle.lms_ots.proofs.JoinedLaws.{joined_start, joined_after}
 use Rattle.lms_tree.specs.Types.{height, leaf_count}
 use Rattle.lms_tree.specs.Nodes.{path_node, sibling}
 use Rattle.lms_tree.proofs.NodeLaws.{number_more}
+use Rattle.lms_tree.proofs.PathLaws.{path_begun, path_longer}
 use Rattle.lms_tree.proofs.TreeLaws.{path_within, path_held}
 use Rattle.lms_tree.proofs.growing.write_path.Goals as goal
 
@@ -14,7 +14,7 @@ loop-init c =
     record {
       number = omega (arith, div-one x, c.leaf_count.ensures.value);
       reached = omega arith;
-      written = λ id seed h. sym (joined_start (take c.args.start c.args.buf.now) (path_node c.args.level id seed c.args.q));
+      written = λ id seed h. path_begun c.word_law.ensures (take c.args.start c.args.buf.now) (path_node c.args.level id seed c.args.q);
     }
 
 pub loop-preserved : goal.loop-preserved
@@ -33,7 +33,7 @@ loop-preserved c =
       written = λ id seed h.
           let is : node ≡ path_node level id seed c.args.q i = rw beside (path_held level c.args.q i c.requires.leaf inside id seed c.args.nodes.now h) in
           let before = take c.args.start c.args.buf.now in
-          c.put-place.ensures.written ∙ ap (λ xs. xs ++ node) (c.loop.invariant.written id seed h) ∙ joined_after before (path_node level id seed c.args.q) i node is;
+          c.put-place.ensures.written ∙ ap (λ xs. xs ++ node) (c.loop.invariant.written id seed h) ∙ path_longer c.word_law.ensures before (path_node level id seed c.args.q) i node is;
     }
 
 pub sibling-requires : goal.sibling-requires

@@ -1,20 +1,16 @@
-use Rattle.lms_tree.proofs.SignatureLaws.{length-lms_public, level_at-lms_public, length-lms_sig, has_types-lms_sig, leaf-lms_sig, verifies}
+use Rattle.lms_tree.proofs.SignatureLaws.{length-child_id, length-lms_public, level_at-lms_public, length-lms_sig, has_types-lms_sig, leaf-lms_sig, verifies}
 use Rattle.lms_tree.proofs.laws.lms_law.Goals as goal
 
-pub returns-clause-len : goal.returns-clause-len
-returns-clause-len c = λ level id seed q msg named below. length-lms_sig level id seed named q below msg
-
-pub returns-clause-public_len : goal.returns-clause-public_len
-returns-clause-public_len c = length-lms_public
-
-pub returns-clause-known : goal.returns-clause-known
-returns-clause-known c = level_at-lms_public
-
-pub returns-clause-verifies : goal.returns-clause-verifies
-returns-clause-verifies c = λ level id seed q msg named below. verifies level id seed named q below msg
-
-pub returns-clause-types : goal.returns-clause-types
-returns-clause-types c = λ level id seed q msg named below. has_types-lms_sig level id seed named q below msg
-
-pub returns-clause-leaf : goal.returns-clause-leaf
-returns-clause-leaf c = λ level id seed q msg named below. leaf-lms_sig level id seed named q below msg
+pub returns : goal.returns
+returns c =
+    let words = c.word_law.ensures in
+    let one_time = c.ots_law.ensures in
+    record {
+      len = λ level id seed q msg named below. length-lms_sig words one_time level id seed named q below msg;
+      types = λ level id seed q msg named below. has_types-lms_sig words one_time level id seed named q below msg;
+      leaf = λ level id seed q msg named below. leaf-lms_sig words one_time level id seed named q below msg;
+      public_len = length-lms_public words one_time;
+      known = level_at-lms_public words one_time;
+      verifies = λ level id seed q msg named below. verifies words one_time level id seed named q below msg;
+      child_len = length-child_id words one_time;
+    }

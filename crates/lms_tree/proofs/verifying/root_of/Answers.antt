@@ -3,7 +3,6 @@ use Rattle.std.proofs.Common.{◌≡◌, ◌+◌, ◌-◌, ◌≤◌, length, Ok
 use Rattle.lms_ots.specs.Words.{part}
 use Rattle.lms_ots.specs.Parameters.{parameters}
 use Rattle.lms_ots.specs.OneTime.{ots_candidate}
-use Rattle.lms_ots.proofs.PartLaws.{length-part}
 use Rattle.lms_tree.specs.Nodes.{key_name}
 use Rattle.lms_tree.specs.Verifies.{root_of_sig}
 use Rattle.lms_tree.proofs.Fronts.{front_type-part}
@@ -17,8 +16,8 @@ candidate_is c =
     let ots = c.args.level.ots in
     let n = (parameters ots).sig_len in
     let room : 4 + n ≤ length c.args.sig.now = omega (arith, c.requires.whole) in
-    let front = front_type-part c.args.sig.now 4 ots room c.requires.ots_code in
-    let len = length-part c.args.sig.now 4 n room in
+    let front = front_type-part c.word_law.ensures c.ots_law.ensures c.args.sig.now 4 ots room c.requires.ots_code in
+    let len = c.word_law.ensures.part_len c.args.sig.now 4 n room in
     let to_end : 4 + c.ots_sig_len-ots_end.result - 4 ≡ n = omega (arith, c.ots_sig_len-ots_end.ensures) in
     (rw to_end at (c.ots_public_from.ensures.key ots)) front len
 
