@@ -1,6 +1,7 @@
 // A journal in a real file.
 use scitt_disk::{Disk, FileDisk};
 use scitt_journal::{Journal, LoadStop};
+use std::fs;
 use std::test::Fail;
 
 #[test]
@@ -38,5 +39,39 @@ fn a_file_is_created_closed_and_loaded(rt: HostRuntime) -> Result<(), Fail> {
     );
     assert!(rt; disk.write_at(16, &[1]).is_err(), "it begins past the end");
     assert_eq!(rt; disk.faults(), 2);
+    Ok(())
+}
+
+#[test]
+fn a_new_file_stands_in_a_folder_of_its_own(rt: HostRuntime) -> Result<(), Fail> {
+    let alloc = rt.alloc();
+    fs::create_dir(&rt, "store")?;
+    let disk = FileDisk::new(rt.clone()?, String::from_str(alloc, "store/journal")?);
+    let Ok(journal) = Journal::create(alloc, disk, &[7]) else {
+        return Err(Fail::new("no file is made in the folder"));
+    };
+    assert_eq!(rt; journal.close().faults(), 0);
+    let again = FileDisk::new(rt.clone()?, String::from_str(alloc, "store/journal")?);
+    let Ok(loaded) = Journal::load(alloc, again) else {
+        return Err(Fail::new("the file isn't loaded from the folder"));
+    };
+    assert_eq!(rt; loaded.count(), 1);
+    Ok(())
+}
+
+#[test]
+fn a_file_whose_name_is_gone_has_no_folder_to_sync(rt: HostRuntime) -> Result<(), Fail> {
+    let alloc = rt.alloc();
+    fs::create_dir(&rt, "store")?;
+    let mut disk = FileDisk::new(rt.clone()?, String::from_str(alloc, "store/journal")?);
+    assert!(rt; disk.write_at(0, &[1, 2]).is_ok());
+    fs::rename(&rt, "store/journal", "store/moved")?;
+    assert!(rt; disk.sync().is_err(), "the name isn't found");
+    assert_eq!(rt; disk.faults(), 1);
+    fs::rename(&rt, "store/moved", "store/journal")?;
+    assert!(rt; disk.sync().is_ok(), "the folder is synced now");
+    fs::rename(&rt, "store/journal", "store/moved")?;
+    assert!(rt; disk.sync().is_ok(), "it is synced once");
+    assert_eq!(rt; disk.faults(), 1);
     Ok(())
 }

@@ -5,7 +5,7 @@ use Rattle.scitt_disk.specs.Mixed.{IsEither}
 use Rattle.scitt_disk.specs.declared.changes.Change.{Change}
 use Rattle.scitt_disk.specs.declared.changes.Change.TheVariants.{Wrote, Refused, Synced}
 use Rattle.scitt_disk.specs.Calls.{after_change, replay, ends_epoch, end_of}
-use Rattle.scitt_disk.specs.CallLemmas.{replay_push}
+use Rattle.scitt_disk.proofs.Replay.{replay_push}
 
 -- one change more of a list
 pub replay-take_more : (start : Held) (changes : List Change) (i : ℕ) (change : Change) → i < length changes → change ≡ get_or changes i change → replay start (take (i + 1) changes) ≡ after_change (replay start (take i changes)) change

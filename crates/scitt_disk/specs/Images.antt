@@ -1,4 +1,4 @@
-use Rattle.std.specs.Prelude.{◌≡◌, ℕ, ◌+◌, ◌-◌, ◌<◌, ◌≤◌, ◌⊎◌, max, List, [], ◌∷◌, length, take, slice_index}
+use Rattle.std.specs.Prelude.{◌≡◌, ℕ, ◌+◌, ◌-◌, ◌<◌, ◌≤◌, ◌⊎◌, max, List, [], ◌∷◌, ◌++◌, length, take, slice_index}
 
 -- the time between two syncs that succeed: the bytes at the first of them, and the ranges that were written
 -- since then, the newest first, each by its first byte and its length
@@ -44,11 +44,15 @@ ImageNow held image = IsImage held.epoch image
 
 -- a crash at some time since that moment might have left this
 abbrev pub ImageSince : Held → ℕ → List ℕ → Type 0
-ImageSince held since image = ImageNow held image ⊎ OneHas (take (length held.earlier - since) held.earlier) image
+ImageSince held since image = ImageNow held image ⊎ OneHas (take (moment held - since) held.earlier) image
 
--- Between the two states, and at both, a crash leaves nothing but what has P.
-pub record LeavesOnly (old new : Held) (P : List ℕ → Type 0) : Type 0 where
-  pub later : moment old ≤ moment new
-  pub each : (image : List ℕ) → ImageSince new (moment old) image → P image
-  -- for a run that began earlier
-  pub before : (since : ℕ) (image : List ℕ) → since ≤ moment old → ImageSince new since image → ImageSince old since image ⊎ P image
+-- the second state comes after the first: the epochs that were closed by then are the same, and syncs may have closed
+-- more
+pub record Continues (old new : Held) : Type 0 where
+  pub closed : List Epoch
+  pub earlier : new.earlier ≡ closed ++ old.earlier
+
+-- from the first state on, up to the second and at both, a crash leaves nothing but what has P
+pub record CrashLeaves (P : List ℕ → Type 0) (old new : Held) : Type 0 where
+  pub continues : Continues old new
+  pub images : (image : List ℕ) → ImageSince new (moment old) image → P image

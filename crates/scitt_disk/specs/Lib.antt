@@ -1,9 +1,10 @@
 pub mod Images
 pub mod Changes
-pub mod Moments
+pub mod Laws
 pub mod Calls
-pub mod CallLemmas
 pub mod Failing
 pub mod Memory
+pub mod SeenIsImage
 pub mod Fuse
+pub mod Files
 pub mod Mixed

@@ -9,8 +9,8 @@ use std::alloc::AllocError;
 
 /// Writes the piece from place `at` on, in place. Nothing has changed where memory is wanting.
 pub fn overwrite(bytes: &mut Vec<u8>, at: u64, piece: &[u8]) -> Result<(), AllocError>
-    ensures ok { OnOk result (bytes.new.items ≡ put bytes.old.items at piece.now) }
-    ensures err { OnErr result (bytes.new.items ≡ bytes.old.items) }
+    ensures written { OnOk result (bytes.new.items ≡ put bytes.old.items at piece.now) }
+    ensures kept { OnErr result (bytes.new.items ≡ bytes.old.items) }
 {
     let len = bytes.len();
     if at >= len as u64 {
@@ -28,7 +28,7 @@ pub fn overwrite(bytes: &mut Vec<u8>, at: u64, piece: &[u8]) -> Result<(), Alloc
     Ok(())
 }
 
-#[tactic(auto, using(crate::specs::CallLemmas::replay_push))]
+#[tactic(auto, using(crate::proofs::Replay::replay_push))]
 /// Notes a sync. Nothing has changed where memory is wanting.
 pub fn note_sync(changes: &mut Vec<Change>) -> Result<(), AllocError>
     ensures noted { OnOk result ((start : Held)
@@ -40,14 +40,14 @@ pub fn note_sync(changes: &mut Vec<Change>) -> Result<(), AllocError>
 
 /// Adds a change to the list.
 fn note(changes: &mut Vec<Change>, change: Change) -> Result<(), AllocError>
-    ensures ok { OnOk result (changes.new.items ≡ changes.old.items ++ change ∷ []) }
-    ensures err { OnErr result (changes.new.items ≡ changes.old.items) }
+    ensures added { OnOk result (changes.new.items ≡ changes.old.items ++ change ∷ []) }
+    ensures kept { OnErr result (changes.new.items ≡ changes.old.items) }
 {
     changes.push(change)?;
     Ok(())
 }
 
-#[tactic(auto, using(crate::specs::CallLemmas::replay_push))]
+#[tactic(auto, using(crate::proofs::Replay::replay_push))]
 /// Notes that a write was refused, where there is memory for the note.
 pub fn note_refusal(changes: &mut Vec<Change>, at: u64, n: u64)
     ensures { (changes.new.items ≡ changes.old.items)
@@ -56,7 +56,7 @@ pub fn note_refusal(changes: &mut Vec<Change>, at: u64, n: u64)
     let _ = note(changes, Change::Refused(at, n));
 }
 
-#[tactic(auto, using(crate::specs::CallLemmas::replay_push))]
+#[tactic(auto, using(crate::proofs::Replay::replay_push))]
 /// Makes a write and notes it. Nothing has changed where memory is wanting.
 pub fn write_and_note(
     bytes: &mut Vec<u8>,

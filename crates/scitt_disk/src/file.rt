@@ -1,32 +1,39 @@
 ghost use Rattle.std.specs.Prelude.{◌≡◌, false, []};
 ghost use Rattle.scitt_io.specs.Causes.{HasCause};
 ghost use Rattle.scitt_disk.specs.Changes.{fresh};
-ghost use Rattle.scitt_disk.specs.CallLemmas.{IsImage-from_fresh};
+ghost use Rattle.scitt_disk.specs.Files.{faults_of_file};
+ghost use Rattle.scitt_disk.specs.SeenIsImage.{IsImage-from_fresh};
 
 use crate::device::{Disk, DiskFault};
+use std::alloc::Global;
 use std::fs::{File, OpenOptions};
 use std::io;
 use std::io::ErrorKind;
 use std::os::unix::fs::FileExt;
 use std::rt::Files;
 
-/// A file of the system as a disk. It is made at the first write; until then a missing file has length 0. What it
-/// holds isn't told: no clause can say what a real file gives.
+/// A file of the system as a disk. It is made at the first write; until then a missing file has length 0. The first
+/// sync of the open file syncs its folder too, so that a new file's name is kept. What it holds isn't told: no clause
+/// can say what a real file gives.
 #[derive(Drop)]
 pub struct FileDisk<R> {
     files: R,
     path: String,
     file: Option<File>,
+    is_name_synced: bool,
     faults: u64,
 }
 
 impl<R: Files<File = File>> FileDisk<R> {
-    /// The file of this path. Nothing is opened yet.
-    pub fn new(files: R, path: String) -> FileDisk<R> {
+    /// The file of this path. Nothing is opened yet, and no call has failed.
+    pub fn new(files: R, path: String) -> FileDisk<R>
+        ensures { faults_of_file result ≡ 0 }
+    {
         FileDisk {
             files,
             path,
             file: None,
+            is_name_synced: false,
             faults: 0,
         }
     }
@@ -78,10 +85,12 @@ fn write_file(file: Option<&File>, at: u64, bytes: &[u8]) -> io::Result<()> {
     }
 }
 
-fn sync_file(file: Option<&File>) -> io::Result<()> {
-    match file {
-        Some(file) => file.sync_all(),
-        None => Ok(()),
+// Syncs the folder of the file at this path; where the path is a link, that of the file it leads to.
+fn sync_folder<R: Files<File = File>>(files: &R, alloc: Global, path: &str) -> io::Result<()> {
+    let real = files.canonicalize(alloc, path)?;
+    match real.parent() {
+        Some(folder) => File::open(files, folder)?.sync_all(),
+        None => Err(io::Error::from(ErrorKind::NotFound)),
     }
 }
 
@@ -109,6 +118,21 @@ impl<R: Files<File = File>> FileDisk<R> {
         }
         Ok(())
     }
+
+    // Syncs the file, and its folder where that isn't done yet. Nothing is to be synced of a missing file.
+    fn sync_file(&mut self) -> io::Result<()>
+        ensures { self.new.faults ≡ self.old.faults }
+    {
+        let Some(file) = self.file.as_ref() else {
+            return Ok(());
+        };
+        file.sync_all()?;
+        if !self.is_name_synced {
+            sync_folder(&self.files, *self.path.allocator(), self.path.as_str())?;
+            self.is_name_synced = true;
+        }
+        Ok(())
+    }
 }
 
 impl<R: Files<File = File>> Disk for FileDisk<R> {
@@ -116,7 +140,7 @@ impl<R: Files<File = File>> Disk for FileDisk<R> {
 
     ghost held = { λ _. fresh [] };
 
-    ghost fault_count = { λ d. d.faults };
+    ghost fault_count = { faults_of_file };
 
     ghost same = { λ _ _. Unit {0} };
 
@@ -150,7 +174,7 @@ impl<R: Files<File = File>> Disk for FileDisk<R> {
     fn sync(&mut self) -> Result<(), DiskFault> {
         let opened = self.open(false);
         counted(&mut self.faults, opened)?;
-        let answer = sync_file(self.file.as_ref());
+        let answer = self.sync_file();
         counted(&mut self.faults, answer)
     }
 

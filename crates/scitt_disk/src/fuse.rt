@@ -2,7 +2,8 @@ ghost use Rattle.std.specs.Prelude.{◌≡◌, ◌+◌, ◌-◌, ◌^◌, ◌<�
 ghost use Rattle.scitt_io.specs.Causes.{HasCause};
 ghost use Rattle.scitt_disk.specs.Changes.{after_write, after_sync, AfterFailedWrite};
 ghost use Rattle.scitt_disk.specs.Failing.{Advances};
-ghost use Rattle.scitt_disk.specs.Memory.{held_of, plan_of, IsImage-held_of};
+ghost use Rattle.scitt_disk.specs.Memory.{held_of, plan_of};
+ghost use Rattle.scitt_disk.specs.SeenIsImage.{IsImage-held_of};
 
 use crate::device::{Disk, DiskFault};
 use crate::memory::MemDisk;

@@ -1,12 +1,19 @@
-ghost use Rattle.std.specs.Prelude.{◌≡◌, ℕ, List};
-ghost use Rattle.scitt_disk.specs.Images.{Held, ImageNow};
-ghost use Rattle.scitt_disk.specs.Changes.{after_sync, after_refusal};
+ghost use Rattle.scitt_disk.specs.Laws.{SyncLeavesOneImage, FailureKeepsImages, EpochHasAll, SyncGoesOn, StretchesJoin, EarlierRunsJoin, MomentsRise};
 
 /// What holds of what every disk holds: after a sync a crash leaves what a read gives and nothing else, and a failed
 /// write takes no image away.
 pub fn image_laws()
-    ensures synced { (held : Held) (image : List ℕ) → ImageNow (after_sync held) image
-        → image ≡ held.seen }
-    ensures failed { (at n : ℕ) (held : Held) (image : List ℕ) → ImageNow held image
-        → ImageNow (after_refusal at n held) image }
+    ensures synced { SyncLeavesOneImage }
+    ensures failed { FailureKeepsImages }
+{}
+
+/// What holds of the images since a moment: within an epoch they are the images at its end; a sync adds what a read
+/// gives; those of one stretch of time after another are those of either; those since a moment before a stretch are
+/// those of the time before it and those of the stretch; and moments don't fall.
+pub fn moment_laws()
+    ensures epoch { EpochHasAll }
+    ensures sync { SyncGoesOn }
+    ensures joined { StretchesJoin }
+    ensures earlier { EarlierRunsJoin }
+    ensures rise { MomentsRise }
 {}

@@ -19,6 +19,6 @@ mod sure;
 pub use device::{Disk, DiskFault};
 pub use file::FileDisk;
 pub use fuse::FuseDisk;
-pub use laws::image_laws;
+pub use laws::{image_laws, moment_laws};
 pub use memory::MemDisk;
 pub use sure::SureDisk;

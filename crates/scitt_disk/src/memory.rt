@@ -99,7 +99,8 @@ impl MemDisk {
 }
 
 impl Disk for MemDisk {
-    ghost use Rattle.scitt_disk.specs.Memory.{held_of, plan_of, IsImage-held_of};
+    ghost use Rattle.scitt_disk.specs.Memory.{held_of, plan_of};
+    ghost use Rattle.scitt_disk.specs.SeenIsImage.{IsImage-held_of};
 
     ghost tells = { true };
 

@@ -1,7 +1,7 @@
 ghost use Rattle.std.specs.Prelude.{◌≡◌, ℕ, false, [], IsOk, EachIndex, slice_index};
 ghost use Rattle.scitt_io.specs.Causes.{HasCause};
 ghost use Rattle.scitt_disk.specs.Changes.{fresh};
-ghost use Rattle.scitt_disk.specs.CallLemmas.{IsImage-from_fresh};
+ghost use Rattle.scitt_disk.specs.SeenIsImage.{IsImage-from_fresh};
 
 use crate::device::{Disk, DiskFault};
 

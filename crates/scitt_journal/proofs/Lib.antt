@@ -1,5 +1,6 @@
 pub mod Places
 pub mod Gates
+pub mod Stretches
 pub mod Stages
 pub mod Seen
 pub mod Scans

@@ -1,11 +1,19 @@
 use Rattle.std.proofs.Common.{◌≡◌, ◌≢◌, ℕ, ◌+◌, ◌-◌, ◌<◌, ◌≤◌, suc, List, [], ◌∷◌, ◌++◌, length, take, drop, get_or, refl, ap, sym, ◌∙◌, arith, length-drop, Result, Ok, is_ok, if◌then◌else◌}
 use Rattle.std.proofs.lemmas.List.{take-append-drop, length-take-le, drop_more}
 use Rattle.std.proofs.Math.Seq.{take-add}
-use Rattle.scitt_journal.specs.Layout.{size_bytes, sized, spelled, starts, Short, Cut}
-use Rattle.scitt_journal.specs.Stops.{IsWhole, Scanned, Finds, ExplainsCut, ExplainsLoad}
+use Rattle.scitt_journal.specs.Layout.{size_bytes, sized, spelled, starts, AllFit, Short, Cut}
+use Rattle.scitt_journal.specs.Stops.{IsWhole, Finds, ExplainsCut, ExplainsLoad}
 use Rattle.scitt_journal.specs.declared.stops.LoadStop.{LoadStop}
 use Rattle.scitt_journal.specs.declared.stops.LoadStop.TheVariants.{NoLog as no_log, Short as short, DiskFault as disk_fault, OutOfMemory as out_of_memory}
 use Rattle.scitt_journal.proofs.Gates.{spelled_push, length-spelled_push, AllFit_push, starts_push, length-starts}
+
+-- the records before this place: their gates are open, and these are their offsets
+pub record Scanned (bytes : List ℕ) (gate : ℕ) (offsets : List ℕ) : Type 0 where
+  pub bodies : List (List ℕ)
+  pub fit : AllFit bodies
+  pub place : length (spelled bodies) ≡ gate
+  pub starts_so : offsets ≡ starts 0 bodies
+  pub front : take gate bytes ≡ spelled bodies
 
 pub scanned_none : (seen : List ℕ) → Scanned seen 0 []
 scanned_none seen =

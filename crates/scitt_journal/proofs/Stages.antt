@@ -1,34 +1,10 @@
-use Rattle.std.proofs.Common.{◌≡◌, ℕ, ◌+◌, ◌^◌, ◌<◌, List, [], ◌∷◌, ◌++◌, length, drop, get_or, Result, Ok, Err, OnOk, OnErr, refl, ap, sym, ◌∙◌, inl, inr, arith, append_assoc}
-use Rattle.scitt_disk.specs.Images.{Epoch, Held, IsImage, ImageNow, LeavesOnly}
+use Rattle.std.proofs.Common.{◌≡◌, ℕ, ◌+◌, ◌^◌, ◌<◌, List, [], ◌∷◌, ◌++◌, length, drop, get_or, refl, ap, sym, ◌∙◌, inl, inr, arith, append_assoc}
+use Rattle.scitt_disk.specs.Images.{Epoch, Held, IsImage, ImageNow}
 use Rattle.scitt_disk.specs.Changes.{put, with_range, after_write, after_sync, AfterFailedWrite}
-use Rattle.scitt_disk.specs.Moments.{IsImage-with_range, image_without_ranges, leaves_within, leaves_through}
 use Rattle.scitt_journal.specs.Layout.{sized, spelled, AllFit, Recovers, OneOf}
 use Rattle.scitt_journal.specs.State.{ShutAfter, GateBefore, AllFrom, AllAt, Closed, Pending, MayLeave}
 use Rattle.scitt_journal.proofs.Places.{image_behind, image_at, put_behind, put_at}
 use Rattle.scitt_journal.proofs.Gates.{recovers_shut, one_of, opened_is, AllFit_push, length-spelled_push}
-
--- ---- what a write and a sync leave
-pub write_leaves : (at : ℕ) (bytes : List ℕ) (old : Held) → LeavesOnly old (after_write at bytes old) (MayLeave at bytes old)
-write_leaves at bytes old =
-    leaves_within old (after_write at bytes old) (MayLeave at bytes old) refl (λ image now. inl now)
-
-pub done_leaves : (at : ℕ) (bytes : List ℕ) (old : Held) → LeavesOnly old (after_sync (after_write at bytes old)) (MayLeave at bytes old)
-done_leaves at bytes old =
-    leaves_through old (after_sync (after_write at bytes old)) (with_range at (length bytes) old.epoch) (MayLeave at bytes old) refl (λ image is. inl is) (λ image now. inr (image_without_ranges (put old.seen at bytes) image now))
-
-pub sync_leaves : {T E : Type 0} (Tells : Type 0) (at : ℕ) (bytes : List ℕ) (old middle new : Held) (answer : Result T E) → Tells → middle ≡ after_write at bytes old → OnOk answer (Tells → new ≡ after_sync middle) → OnErr answer (Tells → new ≡ middle) → LeavesOnly old new (MayLeave at bytes old)
-sync_leaves Tells at bytes old middle new (Ok value) tells written synced failed =
-    rw (synced tells, written) (done_leaves at bytes old)
-sync_leaves Tells at bytes old middle new (Err fault) tells written synced failed =
-    rw (failed tells, written) (write_leaves at bytes old)
-
-pub failed_leaves : (at : ℕ) (bytes : List ℕ) (old new : Held) → AfterFailedWrite at (length bytes) old new → LeavesOnly old new (MayLeave at bytes old)
-failed_leaves at bytes old new failed =
-    leaves_within old new (MayLeave at bytes old) failed.earlier (λ image now.
-    elim failed.epoch [
-      | inl same ↦ inl (IsImage-with_range at (length bytes) old.epoch image (rw same at now))
-      | inr more ↦ inl (rw more at now)
-    ])
 
 -- ---- behind a closed gate
 shut_behind : (epoch : Epoch) (image : List ℕ) (bodies : List (List ℕ)) → ShutAfter bodies epoch.synced → AllFrom (length (spelled bodies) + 1) epoch.written → IsImage epoch image → ShutAfter bodies image

@@ -47,13 +47,15 @@ pub record Pending (held : Held) (gate : ℕ) (bodies : List (List ℕ)) (body :
 
 -- a journal at rest: its records are these
 pub record AtRest {D : Type 0} (held : D → Held) (log : Log D) (bodies : List (List ℕ)) : Type 0 where
-  pub closed : Closed (held log.disk) log.gate bodies
-  pub offsets : log.offsets ≡ starts 0 bodies
+  pub closed : Closed (held log.disk) log.marks.gate bodies
+  pub offsets : log.marks.offsets ≡ starts 0 bodies
+  pub count : log.count ≡ length bodies
 
 -- a journal in need of repair: its records are these, and one that may or may not count
 pub record InDoubt {D : Type 0} (held : D → Held) (log : Log D) (bodies : List (List ℕ)) (body : List ℕ) : Type 0 where
-  pub pending : Pending (held log.disk) log.gate bodies body
-  pub offsets : log.offsets ≡ starts 0 bodies
+  pub pending : Pending (held log.disk) log.marks.gate bodies body
+  pub offsets : log.marks.offsets ≡ starts 0 bodies
+  pub count : log.count ≡ length bodies
 
 -- what a crash may leave during a write at this place, or after a sync behind it
 abbrev pub MayLeave : ℕ → List ℕ → Held → List ℕ → Type 0

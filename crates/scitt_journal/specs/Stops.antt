@@ -1,6 +1,6 @@
 use Rattle.std.specs.Prelude.{◌≡◌, ℕ, ◌+◌, ◌<◌, ◌≤◌, ◌^◌, List, drop, take, length, slice_index}
 use Rattle.scitt_io.specs.Causes.{Rose}
-use Rattle.scitt_journal.specs.Layout.{size_bytes, starts, spelled, AllFit, NoLog, Short, RecordsOf, Cut}
+use Rattle.scitt_journal.specs.Layout.{size_bytes, starts, spelled, NoLog, Short, RecordsOf, Cut}
 use Rattle.scitt_journal.specs.declared.stops.BodyStop.{BodyStop}
 use Rattle.scitt_journal.specs.declared.stops.BodyStop.TheVariants.{DiskFault as read_fault, OutOfMemory as read_memory}
 use Rattle.scitt_journal.specs.declared.stops.CreateStop.{CreateStop}
@@ -39,14 +39,6 @@ pub record IsWhole (bytes : List ℕ) (gate next : ℕ) : Type 0 where
   pub fits : size < 2 ^ 32
   pub spells : size_bytes size ≡ take 4 (drop (gate + 1) bytes)
   pub place : next ≡ gate + 5 + size
-
--- the records before this place: their gates are open, and these are their offsets
-pub record Scanned (bytes : List ℕ) (gate : ℕ) (offsets : List ℕ) : Type 0 where
-  pub bodies : List (List ℕ)
-  pub fit : AllFit bodies
-  pub place : length (spelled bodies) ≡ gate
-  pub starts_so : offsets ≡ starts 0 bodies
-  pub front : take gate bytes ≡ spelled bodies
 
 -- the log of these bytes, as found: its records' offsets, the place of the gate that ends them, and the rest
 pub record Finds (bytes offsets : List ℕ) (gate rest : ℕ) : Type 0 where

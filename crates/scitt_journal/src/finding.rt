@@ -1,7 +1,7 @@
 // How the records of a file are found.
 ghost use Rattle.std.specs.Prelude.{◌≡◌, ℕ, ◌+◌, ◌-◌, ◌*◌, ◌≤◌, ◌^◌, ◌<◌, max, IsTrue, IfOk, IfErr, IsErrOf, OnOk, ◌⊎◌, [], ◌∷◌, ◌++◌, List, length, take, drop, slice_index, vec_len, vec_capacity};
 ghost use Rattle.scitt_io.specs.Causes.{HasCause, Rose};
-ghost use Rattle.scitt_disk.specs.Images.{LeavesOnly, moment};
+ghost use Rattle.scitt_disk.specs.Images.{CrashLeaves, moment};
 ghost use Rattle.scitt_disk.specs.Changes.{after_sync};
 ghost use Rattle.scitt_journal.specs.Layout.{size_bytes, size_in, NoLog};
 ghost use Rattle.scitt_journal.specs.State.{Closed};
@@ -160,7 +160,7 @@ pub fn prepare<D: Disk>(alloc: Global, disk: &mut D, len: usize) -> Result<Prepa
         → moment (D.held disk.old) < moment (D.held disk.new)) }
     ensures any_moment { IsTrue D.tells → NoLog (D.held disk.old).seen
         → moment (D.held disk.old) < moment (D.held disk.new)
-        → LeavesOnly (after_sync (D.held disk.old)) (D.held disk.new) NoLog }
+        → CrashLeaves NoLog (after_sync (D.held disk.old)) (D.held disk.new) }
     ensures log_kept { IsTrue D.tells → (NoLog (D.held disk.old).seen → ⊥)
         → (D.held disk.new ≡ D.held disk.old) ⊎ (D.held disk.new ≡ after_sync (D.held disk.old)) }
     ensures untouched { IsTrue D.tells → moment (D.held disk.new) ≡ moment (D.held disk.old)
@@ -191,7 +191,7 @@ fn begin<D: Disk>(disk: &mut D) -> Result<u64, CreateStop>
         → moment (D.held disk.old) < moment (D.held disk.new)) }
     ensures any_moment { IsTrue D.tells → NoLog (D.held disk.old).seen
         → moment (D.held disk.old) < moment (D.held disk.new)
-        → LeavesOnly (after_sync (D.held disk.old)) (D.held disk.new) NoLog }
+        → CrashLeaves NoLog (after_sync (D.held disk.old)) (D.held disk.new) }
     ensures log_kept { IsTrue D.tells → (NoLog (D.held disk.old).seen → ⊥)
         → (D.held disk.new ≡ D.held disk.old) ⊎ (D.held disk.new ≡ after_sync (D.held disk.old)) }
     ensures untouched { IsTrue D.tells → moment (D.held disk.new) ≡ moment (D.held disk.old)

@@ -1,6 +1,6 @@
 ghost use Rattle.std.specs.Prelude.{◌≡◌, ℕ, ◌+◌, ◌-◌, ◌≤◌, ◌^◌, ◌<◌, max, Bool, true, false, IsTrue, IsOk, OnOk, OnErr, IfOk, IfErr, ◌⊎◌, List, [], ◌∷◌, ◌++◌, length, slice_index_or, if◌then◌else◌, is_ok};
 ghost use Rattle.scitt_io.specs.Causes.{HasCause, Rose};
-ghost use Rattle.scitt_disk.specs.Images.{LeavesOnly, ImageNow, moment};
+ghost use Rattle.scitt_disk.specs.Images.{CrashLeaves, ImageNow, moment};
 ghost use Rattle.scitt_disk.specs.Changes.{after_sync};
 ghost use Rattle.scitt_journal.specs.Layout.{NoLog, Recovers, OneOf};
 ghost use Rattle.scitt_journal.specs.State.{AtRest, InDoubt, Loaded};
@@ -9,7 +9,7 @@ ghost use Rattle.scitt_journal.specs.Stops.{ExplainsLoad, ExplainsCreate, Explai
 use crate::finding::{Found, Prepared, bounds, find_records, prepare, read_body};
 use crate::steps::{OPEN, SHUT, fill, write_and_sync};
 use crate::stops::{BodyStop, CreateStop, LoadStop, Refused};
-use scitt_disk::{Disk, DiskFault};
+use scitt_disk::{Disk, DiskFault, moment_laws};
 use std::alloc::{AllocError, Global};
 use std::marker::Model;
 
@@ -30,19 +30,19 @@ pub struct Journal<D> {
 }
 
 impl<D> Model for Journal<D> {
-    ghost use Rattle.std.specs.Prelude.{ℕ, ◌+◌, ◌*◌, ◌≤◌, vec_capacity, vec_len};
+    ghost use Rattle.std.specs.Prelude.{ℕ, ◌+◌, ◌*◌, ◌≤◌, length, vec_capacity, vec_len};
     ghost use Rattle.scitt_journal.specs.Log.{Log};
 
     ghost Value = { Log D };
 
     ghost view = { λ j. record {
       disk = j.disk;
-      offsets = j.offsets.items;
-      gate = j.gate;
+      count = length j.offsets.items;
       rest = j.rest;
       room = j.room;
       places = j.places;
       needs_repair = j.needs_repair;
+      marks = record { offsets = j.offsets.items; gate = j.gate };
     } };
 
     // the buffer has room for a record and a gate, and the list of offsets for as many as it has places
@@ -68,7 +68,7 @@ impl<D: Disk> Journal<D> {
             → ImageNow (D.held journal.disk) image
             → Recovers image (body.now ∷ [])) }
         ensures any_moment { IfOk result (λ journal. IsTrue D.tells
-            → LeavesOnly (after_sync (D.held disk)) (D.held journal.disk) (OneOf [] body.now)) }
+            → CrashLeaves (OneOf [] body.now) (after_sync (D.held disk)) (D.held journal.disk)) }
         ensures ready { IfOk result (λ journal. journal.needs_repair ≡ false) }
         ensures rest { IfOk result (λ journal. IsTrue D.tells
             → journal.rest ≡ max 1 (length (D.held disk).seen) - 1 - (length body.now + 5)) }
@@ -79,7 +79,7 @@ impl<D: Disk> Journal<D> {
             (D.fault_count disk) (D.fault_count refused.disk) refused.why) }
         ensures stopped { IfErr result (λ refused. IsTrue D.tells → NoLog (D.held disk).seen
             → moment (D.held disk) < moment (D.held refused.disk)
-            → LeavesOnly (after_sync (D.held disk)) (D.held refused.disk) (OneOf [] body.now)) }
+            → CrashLeaves (OneOf [] body.now) (after_sync (D.held disk)) (D.held refused.disk)) }
         ensures untouched { IfErr result (λ refused. IsTrue D.tells
             → moment (D.held refused.disk) ≡ moment (D.held disk) → D.held refused.disk ≡ D.held disk) }
         ensures log_kept { IfErr result (λ refused. IsTrue D.tells → (NoLog (D.held disk).seen → ⊥)
@@ -91,6 +91,7 @@ impl<D: Disk> Journal<D> {
         ensures same { IfOk result (λ journal. D.same disk journal.disk) }
         ensures same_refused { IfErr result (λ refused. D.same disk refused.disk) }
     {
+        moment_laws();
         let mut disk = disk;
         match prepare(alloc, &mut disk, body.len()) {
             Err(why) => Err(Refused { disk, why }),
@@ -170,7 +171,7 @@ impl<D: Disk> Journal<D> {
     /// The body of a record, by one read of the disk. The number is below `count`. `DiskFault` where the disk's count of
     /// faults rose; `OutOfMemory`. The journal is as it was.
     pub fn body(&mut self, alloc: Global, number: u64) -> Result<Vec<u8>, BodyStop>
-        requires { number < length self.old.offsets }
+        requires { number < self.old.count }
         ensures body { IfOk result (λ bytes. (bodies : List (List ℕ)) → IsTrue D.tells
             → AtRest D.held self.old bodies
             → bytes.items ≡ slice_index_or bodies number []) }
@@ -190,7 +191,7 @@ impl<D: Disk> Journal<D> {
 
     /// The number of records.
     pub fn count(&self) -> u64
-        ensures value { result ≡ length self.now.offsets }
+        ensures value { result ≡ self.now.count }
         ensures at_rest { IsTrue D.tells → (bodies : List (List ℕ)) → AtRest D.held self.now bodies
             → result ≡ length bodies }
         ensures in_doubt { IsTrue D.tells → (bodies : List (List ℕ)) (body : List ℕ)
@@ -274,7 +275,7 @@ impl<D: Disk> Journal<D> {
         requires short { length body.now ≤ 16777216 }
         requires room { length body.now ≤ self.old.room }
         requires place { 0 < self.old.places }
-        requires few { length self.old.offsets < 2147483648 }
+        requires few { self.old.count < 2147483648 }
 
         ensures appended { OnOk result ((bodies : List (List ℕ)) → IsTrue D.tells
             → AtRest D.held self.old bodies
@@ -284,7 +285,7 @@ impl<D: Disk> Journal<D> {
             → (image : List ℕ) → ImageNow (D.held self.new.disk) image
             → Recovers image (bodies ++ body.now ∷ [])) }
         ensures any_moment { (bodies : List (List ℕ)) → IsTrue D.tells → AtRest D.held self.old bodies
-            → LeavesOnly (D.held self.old.disk) (D.held self.new.disk) (OneOf bodies body.now) }
+            → CrashLeaves (OneOf bodies body.now) (D.held self.old.disk) (D.held self.new.disk) }
 
         ensures as_before { OnErr result (self.new.needs_repair ≡ false → (bodies : List (List ℕ))
             → IsTrue D.tells
@@ -294,8 +295,7 @@ impl<D: Disk> Journal<D> {
             → AtRest D.held self.old bodies → InDoubt D.held self.new bodies body.now) }
 
         ensures ready { OnOk result (self.new.needs_repair ≡ false) }
-        ensures count { length self.new.offsets
-            ≡ (if is_ok result then length self.old.offsets + 1 else length self.old.offsets) }
+        ensures count { self.new.count ≡ (if is_ok result then self.old.count + 1 else self.old.count) }
         ensures rest { OnOk result (self.new.rest ≡ self.old.rest - (length body.now + 5)) }
         ensures room { self.new.room ≡ self.old.room }
         ensures places { OnOk result (self.new.places + 1 ≡ self.old.places) }
@@ -304,6 +304,7 @@ impl<D: Disk> Journal<D> {
         ensures cause { HasCause (D.fault_count self.old.disk) (D.fault_count self.new.disk) result }
         ensures same { D.same self.old.disk self.new.disk }
     {
+        moment_laws();
         fill(&mut self.buffer, body);
         write_and_sync(&mut self.disk, self.gate + 1, &self.buffer)?;
         self.needs_repair = true;
@@ -330,7 +331,7 @@ impl<D: Disk> Journal<D> {
         ensures any_moment { (bodies : List (List ℕ)) (body : List ℕ) → IsTrue D.tells
             → self.old.needs_repair ≡ true
             → InDoubt D.held self.old bodies body
-            → LeavesOnly (D.held self.old.disk) (D.held self.new.disk) (OneOf bodies body) }
+            → CrashLeaves (OneOf bodies body) (D.held self.old.disk) (D.held self.new.disk) }
         ensures ready { OnOk result (self.new.needs_repair ≡ false) }
         ensures still { OnErr result (self.new.needs_repair ≡ true) }
         ensures others { self.new ≡ record self.old { disk = self.new.disk; needs_repair = self.new.needs_repair } }

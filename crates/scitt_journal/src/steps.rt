@@ -1,12 +1,12 @@
 // Steps on a disk that the journal's calls are made of.
 ghost use Rattle.std.specs.Prelude.{◌≡◌, ℕ, ◌+◌, ◌≤◌, ◌^◌, ◌<◌, IsTrue, OnOk, OnErr, List, [], ◌∷◌, ◌++◌, length, vec_capacity};
 ghost use Rattle.scitt_io.specs.Causes.{HasCause};
-ghost use Rattle.scitt_disk.specs.Images.{LeavesOnly};
+ghost use Rattle.scitt_disk.specs.Images.{CrashLeaves};
 ghost use Rattle.scitt_disk.specs.Changes.{after_write, after_sync, AfterFailedWrite};
 ghost use Rattle.scitt_journal.specs.Layout.{sized};
 ghost use Rattle.scitt_journal.specs.State.{MayLeave};
 
-use scitt_disk::{Disk, DiskFault};
+use scitt_disk::{Disk, DiskFault, image_laws, moment_laws};
 
 /// An open gate, and a closed one.
 pub const OPEN: u8 = 1;
@@ -19,11 +19,13 @@ pub fn write_and_sync<D: Disk>(disk: &mut D, at: u64, bytes: &[u8]) -> Result<()
         → D.held disk.new ≡ after_sync (after_write at bytes.now (D.held disk.old))) }
     ensures failed { OnErr result (IsTrue D.tells
         → AfterFailedWrite at (length bytes.now) (D.held disk.old) (D.held disk.new)) }
-    ensures any_moment { IsTrue D.tells → LeavesOnly
-        (D.held disk.old) (D.held disk.new) (MayLeave at bytes.now (D.held disk.old)) }
+    ensures any_moment { IsTrue D.tells → CrashLeaves
+        (MayLeave at bytes.now (D.held disk.old)) (D.held disk.old) (D.held disk.new) }
     ensures cause { HasCause (D.fault_count disk.old) (D.fault_count disk.new) result }
     ensures same { D.same disk.old disk.new }
 {
+    image_laws();
+    moment_laws();
     disk.write_at(at, bytes)?;
     disk.sync()
 }

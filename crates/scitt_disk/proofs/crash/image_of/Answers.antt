@@ -2,7 +2,7 @@ use Rattle.std.proofs.Common.{◌≡◌, ◌≤◌, length, sym, ap, ◌∙◌, 
 use Rattle.scitt_disk.specs.Images.{IsImage}
 use Rattle.scitt_disk.specs.Changes.{fresh}
 use Rattle.scitt_disk.specs.Calls.{replay}
-use Rattle.scitt_disk.specs.CallLemmas.{IsImage-from_fresh}
+use Rattle.scitt_disk.specs.SeenIsImage.{IsImage-from_fresh}
 use Rattle.scitt_disk.proofs.CrashLemmas.{IsImage-answer}
 use Rattle.scitt_disk.proofs.crash.image_of.Goals as goal
 

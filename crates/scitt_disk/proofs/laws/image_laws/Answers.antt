@@ -1,9 +1,9 @@
-use Rattle.scitt_disk.specs.Moments.{image_without_ranges, IsImage-with_range}
+use Rattle.scitt_disk.proofs.Moments.{image_without_ranges, image_with_range}
 use Rattle.scitt_disk.proofs.laws.image_laws.Goals as goal
 
 pub returns : goal.returns
 returns c =
     record {
       synced = λ held image now. image_without_ranges held.seen image now;
-      failed = λ at n held image now. IsImage-with_range at n held.epoch image now;
+      failed = λ at n held image now. image_with_range at n held.epoch image now;
     }

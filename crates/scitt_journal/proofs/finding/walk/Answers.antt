@@ -1,8 +1,8 @@
 use Rattle.std.proofs.Common.{◌≡◌, ◌+◌, IsTrue, length, get_or, sym, ap, ◌∙◌, arith}
 use Rattle.std.proofs.lemmas.List.{length_push}
 use Rattle.std.proofs.lemmas.Result.{err_from_is_err_and}
-use Rattle.scitt_journal.specs.Stops.{IsWhole, Scanned}
-use Rattle.scitt_journal.proofs.Scans.{explains_walk, scanned_more, finds_end, pushed_is}
+use Rattle.scitt_journal.specs.Stops.{IsWhole}
+use Rattle.scitt_journal.proofs.Scans.{explains_walk, scanned_more, finds_end, pushed_is, Scanned}
 use Rattle.scitt_journal.proofs.finding.walk.Goals as goal
 
 pub returns-in_err-next-clause-stops : goal.returns-in_err-next-clause-stops

@@ -1,5 +1,5 @@
 use Rattle.std.proofs.Common.{◌≡◌, ◌<◌, ◌≤◌, ◌-◌, ◌*◌, IsTrue, slice_index, vec_len}
-use Rattle.scitt_journal.specs.Stops.{Scanned}
+use Rattle.scitt_journal.proofs.Scans.{Scanned}
 use Rattle.scitt_journal.proofs.finding.walk.Given as goal
 
 abbrev pub invariant-records : goal.invariant-records

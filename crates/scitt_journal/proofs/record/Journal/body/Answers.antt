@@ -1,6 +1,6 @@
 use Rattle.std.proofs.Common.{◌≡◌, ◌∷◌, ◌++◌, ◌-◌, IsTrue, take, drop, length, ap, ◌∙◌, arith}
 use Rattle.scitt_journal.specs.Layout.{sized}
-use Rattle.scitt_journal.proofs.Seen.{rest_inside, doubt_inside, offsets_count}
+use Rattle.scitt_journal.proofs.Seen.{rest_inside, doubt_inside, count_inside}
 use Rattle.scitt_journal.proofs.Bodies.{body_at, if_ok_map}
 use Rattle.scitt_journal.proofs.record.Journal.body.Goals as goal
 
@@ -10,7 +10,7 @@ returns-clause-body g c =
     if_ok_map c.read_body.result (λ bytes. IsTrue g.D.Disk.tells → bytes.items ≡ take (c.bounds-start.result.1 - c.saturating_add.result) (drop c.saturating_add.result (held c.self.inside.disk).seen)) _ c.read_body.ensures.body (λ bytes read bodies tells was.
     let inside = rest_inside held _ _ bodies c.self.view_is was in
     let seen = inside.closed.seen in
-    read tells ∙ body_at bodies c.deref.result.now (held c.self.inside.disk).seen (seen.gate ∷ seen.behind) c.self.inside.gate c.args.number c.bounds-start.result.0 c.bounds-start.result.1 c.saturating_add.result (c.deref.ensures.value ∙ inside.offsets) inside.closed.place seen.is (omega (arith, c.requires, ap length c.deref.ensures.value, offsets_count _ _ c.self.view_is)) c.bounds-start.ensures.start c.bounds-start.ensures.end c.bounds-start.ensures.range c.saturating_add.ensures)
+    read tells ∙ body_at bodies c.deref.result.now (held c.self.inside.disk).seen (seen.gate ∷ seen.behind) c.self.inside.gate c.args.number c.bounds-start.result.0 c.bounds-start.result.1 c.saturating_add.result (c.deref.ensures.value ∙ inside.offsets) inside.closed.place seen.is (omega (arith, c.requires, ap length c.deref.ensures.value, count_inside _ _ c.self.view_is)) c.bounds-start.ensures.start c.bounds-start.ensures.end c.bounds-start.ensures.range c.saturating_add.ensures)
 
 pub returns-clause-in_doubt : goal.returns-clause-in_doubt
 returns-clause-in_doubt g c =
@@ -18,4 +18,4 @@ returns-clause-in_doubt g c =
     if_ok_map c.read_body.result (λ bytes. IsTrue g.D.Disk.tells → bytes.items ≡ take (c.bounds-start.result.1 - c.saturating_add.result) (drop c.saturating_add.result (held c.self.inside.disk).seen)) _ c.read_body.ensures.body (λ bytes read bodies body tells was.
     let inside = doubt_inside held _ _ bodies body c.self.view_is was in
     let seen = inside.pending.seen in
-    read tells ∙ body_at bodies c.deref.result.now (held c.self.inside.disk).seen (seen.gate ∷ (sized body ++ 0 ∷ seen.behind)) c.self.inside.gate c.args.number c.bounds-start.result.0 c.bounds-start.result.1 c.saturating_add.result (c.deref.ensures.value ∙ inside.offsets) inside.pending.place seen.is (omega (arith, c.requires, ap length c.deref.ensures.value, offsets_count _ _ c.self.view_is)) c.bounds-start.ensures.start c.bounds-start.ensures.end c.bounds-start.ensures.range c.saturating_add.ensures)
+    read tells ∙ body_at bodies c.deref.result.now (held c.self.inside.disk).seen (seen.gate ∷ (sized body ++ 0 ∷ seen.behind)) c.self.inside.gate c.args.number c.bounds-start.result.0 c.bounds-start.result.1 c.saturating_add.result (c.deref.ensures.value ∙ inside.offsets) inside.pending.place seen.is (omega (arith, c.requires, ap length c.deref.ensures.value, count_inside _ _ c.self.view_is)) c.bounds-start.ensures.start c.bounds-start.ensures.end c.bounds-start.ensures.range c.saturating_add.ensures)

@@ -1,5 +1,5 @@
 use Rattle.std.proofs.Common.{◌∷◌, []}
-use Rattle.scitt_disk.specs.Moments.{leaves_weaker}
+use Rattle.scitt_journal.proofs.Stretches.{leaves_weaker}
 use Rattle.scitt_journal.specs.Layout.{OneOf}
 use Rattle.scitt_journal.specs.State.{MayLeave}
 use Rattle.scitt_journal.proofs.Stages.{gate_may_leave, gate_failed, gate_closed}
@@ -15,6 +15,7 @@ returns-in_err-write_and_sync-clause-in_doubt g c =
     record {
       pending = gate_failed (held c.self.inside.disk) (held c.write_and_sync.new.disk) c.self.inside.gate bodies body inside.pending (c.in_err-write_and_sync.ensures.failed tells);
       offsets = inside.offsets;
+      count = inside.count;
     })
 
 pub returns-in_err-write_and_sync-clause-any_moment :
@@ -22,7 +23,7 @@ pub returns-in_err-write_and_sync-clause-any_moment :
 returns-in_err-write_and_sync-clause-any_moment g c = λ bodies body tells needed was.
     let held = g.D.Disk.held in
     let inside = doubt_inside held _ _ bodies body c.self.view_is was in
-    leaves_outside held _ _ _ (OneOf bodies body) c.self.view_is (leaves_weaker _ _ (MayLeave c.self.inside.gate (0 ∷ []) (held c.self.inside.disk)) _ (λ image may. gate_may_leave _ _ bodies body 0 image inside.pending may) (c.write_and_sync.ensures.any_moment tells))
+    leaves_outside held _ _ _ (OneOf bodies body) c.self.view_is (leaves_weaker (MayLeave c.self.inside.gate (0 ∷ []) (held c.self.inside.disk)) _ _ _ (λ image may. gate_may_leave _ _ bodies body 0 image inside.pending may) (c.write_and_sync.ensures.any_moment tells))
 
 pub returns-clause-repaired : goal.returns-clause-repaired
 returns-clause-repaired g c = λ bodies body tells needed was.
@@ -31,10 +32,11 @@ returns-clause-repaired g c = λ bodies body tells needed was.
     record {
       closed = rw (c.in_ok-write_and_sync.ensures.done tells) (gate_closed (held c.self.inside.disk) c.self.inside.gate bodies body inside.pending);
       offsets = inside.offsets;
+      count = inside.count;
     }
 
 pub returns-clause-any_moment : goal.returns-clause-any_moment
 returns-clause-any_moment g c = λ bodies body tells needed was.
     let held = g.D.Disk.held in
     let inside = doubt_inside held _ _ bodies body c.self.view_is was in
-    leaves_outside held _ _ _ (OneOf bodies body) c.self.view_is (leaves_weaker _ _ (MayLeave c.self.inside.gate (0 ∷ []) (held c.self.inside.disk)) _ (λ image may. gate_may_leave _ _ bodies body 0 image inside.pending may) (c.write_and_sync.ensures.any_moment tells))
+    leaves_outside held _ _ _ (OneOf bodies body) c.self.view_is (leaves_weaker (MayLeave c.self.inside.gate (0 ∷ []) (held c.self.inside.disk)) _ _ _ (λ image may. gate_may_leave _ _ bodies body 0 image inside.pending may) (c.write_and_sync.ensures.any_moment tells))

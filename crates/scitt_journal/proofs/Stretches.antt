@@ -1,0 +1,53 @@
+use Rattle.std.proofs.Common.{◌≡◌, ℕ, List, length, Result, Ok, Err, OnOk, OnErr, refl, inl, inr}
+use Rattle.scitt_disk.specs.Images.{Held, CrashLeaves}
+use Rattle.scitt_disk.specs.Changes.{after_write, after_sync, AfterFailedWrite}
+use Rattle.scitt_disk.specs.Laws.{FailureKeepsImages, EpochHasAll, SyncGoesOn, StretchesJoin}
+use Rattle.scitt_journal.specs.State.{MayLeave}
+
+-- a weaker fact of each image
+pub leaves_weaker : (P Q : List ℕ → Type 0) (old new : Held) → ((image : List ℕ) → P image → Q image) → CrashLeaves P old new → CrashLeaves Q old new
+leaves_weaker P Q old new weaker was =
+    record {
+      continues = was.continues;
+      images = λ image since. weaker image (was.images image since);
+    }
+
+-- one stretch of time after another
+pub leaves_then : StretchesJoin → (P : List ℕ → Type 0) (first middle last : Held) → CrashLeaves P first middle → CrashLeaves P middle last → CrashLeaves P first last
+leaves_then joined P first middle last one two =
+    let whole = joined first middle last one.continues two.continues in
+    record {
+      continues = whole.0;
+      images = λ image since.
+          elim (whole.1 image since) [ inl early ↦ one.images image early | inr late ↦ two.images image late ];
+    }
+
+-- a write, a sync, and the one after the other
+write_leaves : EpochHasAll → (at : ℕ) (bytes : List ℕ) (old : Held) → CrashLeaves (MayLeave at bytes old) old (after_write at bytes old)
+write_leaves epoch at bytes old =
+    let has = epoch old (after_write at bytes old) refl in
+    record { continues = has.0; images = λ image since. inl (has.1 image since) }
+
+synced_leaves : SyncGoesOn → (at : ℕ) (bytes : List ℕ) (old : Held) → CrashLeaves (MayLeave at bytes old) (after_write at bytes old) (after_sync (after_write at bytes old))
+synced_leaves sync at bytes old =
+    let has = sync (after_write at bytes old) in
+    record { continues = has.0; images = has.1 }
+
+pub done_leaves : {T E : Type 0} (Tells : Type 0) → EpochHasAll → SyncGoesOn → StretchesJoin → (at : ℕ) (bytes : List ℕ) (old middle new : Held) (answer : Result T E) → Tells → middle ≡ after_write at bytes old → OnOk answer (Tells → new ≡ after_sync middle) → OnErr answer (Tells → new ≡ middle) → CrashLeaves (MayLeave at bytes old) old new
+done_leaves Tells epoch sync joined at bytes old middle new (Ok value) tells written synced failed =
+    rw (synced tells, written) (leaves_then joined (MayLeave at bytes old) old (after_write at bytes old) (after_sync (after_write at bytes old)) (write_leaves epoch at bytes old) (synced_leaves sync at bytes old))
+done_leaves Tells epoch sync joined at bytes old middle new (Err fault) tells written synced failed =
+    rw (failed tells, written) (write_leaves epoch at bytes old)
+
+-- a write that failed
+pub failed_leaves : EpochHasAll → FailureKeepsImages → (at : ℕ) (bytes : List ℕ) (old new : Held) → AfterFailedWrite at (length bytes) old new → CrashLeaves (MayLeave at bytes old) old new
+failed_leaves epoch keeps at bytes old new failed =
+    let has = epoch old new failed.earlier in
+    record {
+      continues = has.0;
+      images = λ image since.
+          elim failed.epoch [
+            | inl same ↦ inl (keeps at (length bytes) old image (rw same at (has.1 image since)))
+            | inr more ↦ inl (rw more at (has.1 image since))
+          ];
+    }
