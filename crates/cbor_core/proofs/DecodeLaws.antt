@@ -7,6 +7,7 @@ use Rattle.cbor_core.specs.declared.words.Why.{Why}
 use Rattle.cbor_core.specs.declared.words.DecodeStop.TheVariants.{Fault as AtFault, OutOfMemory}
 use Rattle.cbor_core.specs.declared.heads.Stop.{Stop}
 use Rattle.cbor_core.specs.declared.tree.Item.{Item}
+use Rattle.cbor_core.specs.Limits.{most_containers}
 use Rattle.cbor_core.specs.Bytes.{IsBytes}
 use Rattle.cbor_core.specs.Head.{head}
 use Rattle.cbor_core.specs.Spells.{SpellsIn, Spells}
@@ -20,13 +21,13 @@ use Rattle.cbor_core.proofs.ReadLaws.{read-again, read-spelled, read-stops, read
 abbrev Answer : Type 0
 Answer = Result (Item × List ℕ) Stop
 
-pub spelled-again : (g : Grammar) (item : Item) (text rest : List ℕ) → Spells g item text → read_in g 16 (text ++ rest) ≡ Ok (item, rest)
+pub spelled-again : (g : Grammar) (item : Item) (text rest : List ℕ) → Spells g item text → read_in g most_containers (text ++ rest) ≡ Ok (item, rest)
 unfolding Spells
-spelled-again g item text rest s = read-again g 16 item text rest s
+spelled-again g item text rest s = read-again g most_containers item text rest s
 
 pub prefix_free : PrefixFree
 prefix_free g a b s t x y p q e =
-    let one = ok_is (a, x) (b, y) (sym (spelled-again g a s x p) ∙ ap (read_in g 16) e ∙ spelled-again g b t y q) in
+    let one = ok_is (a, x) (b, y) (sym (spelled-again g a s x p) ∙ ap (read_in g most_containers) e ∙ spelled-again g b t y q) in
     let rests : x ≡ y = ap (λ (z : Item × List ℕ). z.1) one in
     (ap (λ (z : Item × List ℕ). z.0) one, append_cancel_right s t x (subst (λ (r : List ℕ). s ++ x ≡ t ++ r) (sym rests) e))
 
@@ -75,43 +76,43 @@ stuck-within g (suc room) bytes left why fits (inr w) = inside_within g (SpellsI
 -- ---- what a reader's answer says
 
 -- an item that was read is spelled by the bytes before the rest
-pub prefix_of : (g : Grammar) (bytes : List ℕ) (item : Item) (rest : List ℕ) → IsBytes bytes → read_in g 16 bytes ≡ Ok (item, rest)
+pub prefix_of : (g : Grammar) (bytes : List ℕ) (item : Item) (rest : List ℕ) → IsBytes bytes → read_in g most_containers bytes ≡ Ok (item, rest)
     → (length bytes - length rest ≤ length bytes) × Spells g item (take (length bytes - length rest) bytes)
 unfolding Spells
 prefix_of g bytes item rest fits e =
-    let s = read-spelled g 16 bytes item rest fits e in
+    let s = read-spelled g most_containers bytes item rest fits e in
     let text = s.0 in
     let n : length bytes - length rest ≡ length text = omega (arith, ap length s.2, length-append text rest) in
     let front : take (length bytes - length rest) bytes ≡ text = ap (λ (k : ℕ). take k bytes) n ∙ ap (λ (b : List ℕ). take (length text) b) s.2 ∙ take_at text rest (length text) refl in
-    (omega arith, subst (λ (t : List ℕ). SpellsIn g 16 item t) (sym front) s.1)
+    (omega arith, subst (λ (t : List ℕ). SpellsIn g most_containers item t) (sym front) s.1)
 
 -- a stop that was read is a fault
-pub fault_of : (g : Grammar) (bytes : List ℕ) (stop : Stop) → IsBytes bytes → read_in g 16 bytes ≡ Err stop → FaultIn g 0 bytes (length bytes - stop.left) stop.why
+pub fault_of : (g : Grammar) (bytes : List ℕ) (stop : Stop) → IsBytes bytes → read_in g most_containers bytes ≡ Err stop → FaultIn g 0 bytes (length bytes - stop.left) stop.why
 fault_of g bytes stop fits e =
-    let w = read-stops g 16 bytes stop fits e in
-    let le : stop.left ≤ length bytes = stuck-within g 16 bytes stop.left stop.why fits w in
+    let w = read-stops g most_containers bytes stop fits e in
+    let le : stop.left ≤ length bytes = stuck-within g most_containers bytes stop.left stop.why fits w in
     let back : length bytes - (length bytes - stop.left) ≡ stop.left = omega arith in
-    (omega arith, subst (λ (n : ℕ). Stuck g 16 bytes n stop.why) (sym back) w)
+    (omega arith, subst (λ (n : ℕ). Stuck g most_containers bytes n stop.why) (sym back) w)
 
 -- ---- exactly one of a prefix and a fault
 
 pub prefix_or_fault : PrefixOrFault
 prefix_or_fault g bytes fits =
-    let go : (r : Answer) → read_in g 16 bytes ≡ r → HasPrefix g bytes ⊎ HasFault g bytes = λ r. elim r as (λ r. read_in g 16 bytes ≡ r → HasPrefix g bytes ⊎ HasFault g bytes) [
+    let go : (r : Answer) → read_in g most_containers bytes ≡ r → HasPrefix g bytes ⊎ HasFault g bytes = λ r. elim r as (λ r. read_in g most_containers bytes ≡ r → HasPrefix g bytes ⊎ HasFault g bytes) [
       | Ok x ↦ λ e. (let p = prefix_of g bytes x.0 x.1 fits e in inl (x.0, length bytes - length x.1, p.0, p.1))
       | Err stop ↦ λ e. inr (length bytes - stop.left, stop.why, fault_of g bytes stop fits e)
     ] in
-    go (read_in g 16 bytes) refl
+    go (read_in g most_containers bytes) refl
 
-prefix-reads : (g : Grammar) (bytes : List ℕ) (item : Item) (n : ℕ) → Spells g item (take n bytes) → read_in g 16 bytes ≡ Ok (item, drop n bytes)
-prefix-reads g bytes item n s = ap (read_in g 16) (sym (take-append-drop n bytes)) ∙ spelled-again g item (take n bytes) (drop n bytes) s
+prefix-reads : (g : Grammar) (bytes : List ℕ) (item : Item) (n : ℕ) → Spells g item (take n bytes) → read_in g most_containers bytes ≡ Ok (item, drop n bytes)
+prefix-reads g bytes item n s = ap (read_in g most_containers) (sym (take-append-drop n bytes)) ∙ spelled-again g item (take n bytes) (drop n bytes) s
 
 pub not_both : NotBoth
-not_both g bytes (item, n, le, s) (at, why, (within, w)) = ok_err _ _ (sym (prefix-reads g bytes item n s) ∙ read-stuck g 16 bytes (length bytes - at) why w)
+not_both g bytes (item, n, le, s) (at, why, (within, w)) = ok_err _ _ (sym (prefix-reads g bytes item n s) ∙ read-stuck g most_containers bytes (length bytes - at) why w)
 
 pub one_fault : OneFault
 one_fault g bytes at other_at why other_why (within, w) (other_within, v) =
-    let same = err_is (record { left = length bytes - at; why = why }) (record { left = length bytes - other_at; why = other_why }) (sym (read-stuck g 16 bytes (length bytes - at) why w) ∙ read-stuck g 16 bytes (length bytes - other_at) other_why v) in
+    let same = err_is (record { left = length bytes - at; why = why }) (record { left = length bytes - other_at; why = other_why }) (sym (read-stuck g most_containers bytes (length bytes - at) why w) ∙ read-stuck g most_containers bytes (length bytes - other_at) other_why v) in
     let places : length bytes - at ≡ length bytes - other_at = ap (λ (s : Stop). s.left) same in
     (omega arith, ap (λ (s : Stop). s.why) same)
 
@@ -125,12 +126,12 @@ whole-some (Err stop) item e = absurd cc
 pub item_is_spelled : ItemIsSpelled
 unfolding strict_item Spells
 item_is_spelled bytes item fits e =
-    let s = read-spelled Strict 16 bytes item [] fits (whole-some (read_in Strict 16 bytes) item e) in
-    subst (λ (t : List ℕ). SpellsIn Strict 16 item t) (sym (s.2 ∙ append-nil s.0)) s.1
+    let s = read-spelled Strict most_containers bytes item [] fits (whole-some (read_in Strict most_containers bytes) item e) in
+    subst (λ (t : List ℕ). SpellsIn Strict most_containers item t) (sym (s.2 ∙ append-nil s.0)) s.1
 
 pub spelled_is_item : SpelledIsItem
 unfolding strict_item
-spelled_is_item bytes item s = ap whole (ap (read_in Strict 16) (sym (append-nil bytes)) ∙ spelled-again Strict item bytes [] s)
+spelled_is_item bytes item s = ap whole (ap (read_in Strict most_containers) (sym (append-nil bytes)) ∙ spelled-again Strict item bytes [] s)
 
 -- ---- the round trip
 

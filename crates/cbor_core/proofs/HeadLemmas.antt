@@ -1,8 +1,10 @@
 -- A head that is read is the head that was written, and what was written is read again.
-use Rattle.std.proofs.Common.{◌≡◌, ℕ, ◌+◌, ◌*◌, ◌/◌, ◌%◌, ◌<◌, ◌≤◌, true, false, cond, ◌==◌, List, [], ◌∷◌, ◌++◌, length, take, drop, Result, Ok, Err, refl, sym, subst, inl, inr, arith, nat_lt, ltb-false, ltb-true, le-ltb, lt-ltb, ne_eqb, eqb-true}
-use Rattle.std.specs.Int.{w8, byte_len, from_be_bytes, to_be_bytes}
+use Rattle.std.proofs.Common.{◌≡◌, ℕ, zero, suc, ◌+◌, ◌-◌, ◌*◌, ◌^◌, ◌/◌, ◌%◌, ◌<◌, ◌≤◌, true, false, cond, ◌==◌, List, [], ◌∷◌, ◌++◌, length, take, drop, Result, Ok, Err, refl, sym, subst, inl, inr, arith, nat_lt, ltb-false, ltb-true, le-ltb, lt-ltb, ne_eqb, eqb-true}
+use Rattle.std.specs.Int.{Width, w8, w16, w32, w64, byte_len, byte_worth, sum_through, from_be_bytes, to_be_bytes}
+use Rattle.std.specs.Prelude.{slice_index}
+use Rattle.std.proofs.Math.Nat.{mul-le-mul_right}
 use Rattle.std.proofs.lemmas.Bool.{and_left, and_right}
-use Rattle.std.proofs.lemmas.List.{take_at, drop_at, take-append-drop, length-append, length-take}
+use Rattle.std.proofs.lemmas.List.{take-append-drop, length-take}
 use Rattle.std.proofs.lemmas.Nat.{be_bytes_2, be_bytes_4, be_bytes_8, from_be_bytes-to_be_bytes_2, from_be_bytes-to_be_bytes_4, from_be_bytes-to_be_bytes_8}
 use Rattle.cbor_core.specs.declared.words.Grammar.{Grammar}
 use Rattle.cbor_core.specs.declared.words.Grammar.TheVariants.{Strict, Wide}
@@ -14,7 +16,7 @@ use Rattle.cbor_core.specs.declared.heads.Head.{Head}
 use Rattle.cbor_core.specs.Bytes.{IsBytes}
 use Rattle.cbor_core.specs.Head.{information, argument_bytes, width, is_own, limit, least, MayStand, head, is_reserved, sized, head_at}
 use Rattle.cbor_core.specs.Spells.{is_strict}
-use Rattle.cbor_core.proofs.StepLemmas.{IsBytes-front, IsBytes-tail, chosen, ok_is, err_ok}
+use Rattle.cbor_core.proofs.StepLemmas.{IsBytes-front, IsBytes-after, is_cut, chosen, ok_is, err_ok}
 
 -- ---- an argument and its bytes, by their size
 
@@ -49,13 +51,26 @@ its_bytes Two bytes e fits = be_bytes_2 bytes _ e fits refl
 its_bytes Four bytes e fits = be_bytes_4 bytes _ e fits refl
 its_bytes Eight bytes e fits = be_bytes_8 bytes _ e fits refl
 
--- and that argument fits its size, where the size has bytes of its own
+sums_grow : (f g : ℕ → ℕ) → ((i : ℕ) → f i ≤ g i) → (k : ℕ) → sum_through f k ≤ sum_through g k
+sums_grow f g le zero = le 0
+sums_grow f g le (suc k) = omega (arith, sums_grow f g le k, le (suc k))
+
+worth_most : (i b : ℕ) → b < 256 → byte_worth i b ≤ byte_worth i 255
+worth_most zero b lt = omega arith
+worth_most (suc i) b lt = mul-le-mul_right {m = b} {n = 255} (256 ^ suc i) (omega arith)
+
+-- bytes spell no number above the one that as many bytes 255 spell
+most_spelled : (w : Width) (bytes : List ℕ) → IsBytes bytes → from_be_bytes w bytes ≤ sum_through (λ i. byte_worth (byte_len w - 1 - i) 255) (byte_len w - 1)
+most_spelled w bytes fits =
+    sums_grow (λ i. byte_worth (byte_len w - 1 - i) (slice_index bytes i)) (λ i. byte_worth (byte_len w - 1 - i) 255) (λ i. worth_most (byte_len w - 1 - i) (slice_index bytes i) (fits i)) (byte_len w - 1)
+
+-- so an argument with bytes of its own fits its size
 argument_fits : (size : Size) (bytes : List ℕ) → is_own size ≡ true → IsBytes bytes → from_be_bytes (width size) bytes < limit size
 argument_fits Within bytes own fits = absurd cc
-argument_fits One bytes own fits = omega (arith, fits 0)
-argument_fits Two bytes own fits = omega (arith, fits 0, fits 1)
-argument_fits Four bytes own fits = omega (arith, fits 0, fits 1, fits 2, fits 3)
-argument_fits Eight bytes own fits = omega (arith, fits 0, fits 1, fits 2, fits 3, fits 4, fits 5, fits 6, fits 7)
+argument_fits One bytes own fits = omega (arith, most_spelled w8 bytes fits)
+argument_fits Two bytes own fits = omega (arith, most_spelled w16 bytes fits)
+argument_fits Four bytes own fits = omega (arith, most_spelled w32 bytes fits)
+argument_fits Eight bytes own fits = omega (arith, most_spelled w64 bytes fits)
 
 -- ---- a head is read again
 
@@ -63,8 +78,8 @@ argument_fits Eight bytes own fits = omega (arith, fits 0, fits 1, fits 2, fits 
 reads_front : (first : ℕ) (size : Size) (text rest : List ℕ) → length text ≡ byte_len (width size) → is_reserved first (from_be_bytes (width size) text) ≡ false
     → sized first size (text ++ rest) ≡ Ok (record { major = first / 32; size = size; argument = from_be_bytes (width size) text }, rest)
 reads_front first size text rest len free =
-    let enough : nat_lt (length (text ++ rest)) (byte_len (width size)) ≡ false = le-ltb _ _ (omega (arith, length-append text rest)) in
-    rw (enough, take_at text rest (byte_len (width size)) len, drop_at text rest (byte_len (width size)) len, free) refl
+    let cut = is_cut text rest (byte_len (width size)) len in
+    rw (cut.enough, cut.taken, cut.dropped, free) refl
 
 sized-again : (first : ℕ) (size : Size) (n : ℕ) (rest : List ℕ) → n < limit size → is_reserved first n ≡ false
     → sized first size (to_be_bytes (width size) n ++ rest) ≡ Ok (record { major = first / 32; size = size; argument = n }, rest)
@@ -163,7 +178,7 @@ unfolding head_at
 head-read [] h rest fits e = absurd (err_ok _ _ e)
 head-read (b ∷ bytes) h rest fits e =
     let lt : b < 256 = fits 0 in
-    let tail = IsBytes-tail b bytes fits in
+    let tail = IsBytes-after (b ∷ bytes) (b ∷ []) bytes fits refl in
     let goal : Result (Head × List ℕ) Why = Ok (h, rest) in
     let i = b % 32 in
     let here : Result (Head × List ℕ) Why = Ok (record { major = b / 32; size = Within; argument = b % 32 }, bytes) in

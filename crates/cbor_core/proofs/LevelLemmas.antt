@@ -13,11 +13,12 @@ use Rattle.cbor_core.specs.declared.heads.Stop.{Stop}
 use Rattle.cbor_core.specs.declared.tree.Item.{Item}
 use Rattle.cbor_core.specs.declared.tree.Node.{Node, Node-F, out-Node, roll-Node, roll-out-Node}
 use Rattle.cbor_core.specs.declared.tree.Node.TheVariants.{Bytes, Text, Array, Map, Tag, Float, rolls-Uint, rolls-Nint, rolls-Bytes, rolls-Text, rolls-Array, rolls-Map, rolls-Tag, rolls-Simple, rolls-Float}
+use Rattle.cbor_core.specs.Limits.{longest_string, most_parts}
 use Rattle.cbor_core.specs.Tree.{Layer}
 use Rattle.cbor_core.specs.Head.{information, limit, MayStand, head, is_reserved}
 use Rattle.cbor_core.specs.Spells.{is_strict, SpellsLayer, Headed, IsFloat}
 use Rattle.cbor_core.specs.Faults.{is_float}
-use Rattle.cbor_core.specs.Reading.{◌>>=◌, Reader, judged, opened_by, opened, read_body, seven, IsOpen}
+use Rattle.cbor_core.specs.Reading.{and_then, Reader, judged, opened_by, opened, read_body, seven, IsOpen}
 use Rattle.cbor_core.proofs.RowLemmas.{row-none}
 use Rattle.cbor_core.proofs.HeadLemmas.{head-again, free_below, free_from, may_fits, may_least}
 use Rattle.cbor_core.proofs.PartLemmas.{ReadsAgain, each-again}
@@ -25,7 +26,7 @@ use Rattle.cbor_core.proofs.PairLemmas.{pairs-again}
 
 -- a level of reading
 abbrev pub level : Grammar → ℕ → Reader → Reader
-level g room part bytes = opened g room bytes >>= λ x. read_body g part x.0 x.1
+level g room part bytes = and_then (opened g room bytes) (λ x. read_body g part x.0 x.1)
 
 -- the head of a number, with its size
 abbrev head_of : ℕ → Size → ℕ → Head
@@ -43,7 +44,7 @@ opens g room major size n rest free o =
 
 -- what a level reads behind an open head
 level_opens : (g : Grammar) (room : ℕ) (part : Reader) (bytes : List ℕ) (h : Head) (rest : List ℕ) → opened g room bytes ≡ Ok (h, rest) → level g room part bytes ≡ read_body g part h rest
-level_opens g room part bytes h rest e = ap (λ r. r >>= λ x. read_body g part x.0 x.1) e
+level_opens g room part bytes h rest e = ap (λ r. and_then r (λ x. read_body g part x.0 x.1)) e
 
 -- no number of major type 7 is reserved but in two bytes
 within_free : (n : ℕ) → n < 24 → is_reserved (224 + n) n ≡ false
@@ -71,7 +72,7 @@ wide_strict Wide e s = cc
 
 module _ (g : Grammar) (room : ℕ) (Part : Item → List ℕ → Type 0) (part : Reader) where
   -- a head of a number, a tag or a list
-  open_plain : (major : ℕ) (size : Size) (n : ℕ) (rest : List ℕ) → major < 7 → MayStand g size n → ((2 ≤ major) × (major < 4) → ⊥) → (4 ≤ major → 0 < room) → (4 ≤ major → major < 6 → n ≤ 4096) → IsOpen g room (head_of major size n) rest
+  open_plain : (major : ℕ) (size : Size) (n : ℕ) (rest : List ℕ) → major < 7 → MayStand g size n → ((2 ≤ major) × (major < 4) → ⊥) → (4 ≤ major → 0 < room) → (4 ≤ major → major < 6 → n ≤ most_parts) → IsOpen g room (head_of major size n) rest
   open_plain major size n rest lt may no_string deep few = record {
     major = omega arith;
     argument = may_fits g size n may;
@@ -85,7 +86,7 @@ module _ (g : Grammar) (room : ℕ) (Part : Item → List ℕ → Type 0) (part 
   }
 
   -- a head of a string
-  open_string : (major : ℕ) (size : Size) (content rest : List ℕ) → 2 ≤ major → major < 4 → MayStand g size (length content) → length content ≤ 4198400 → (major ≡ 3 → IsUtf8 content) → IsOpen g room (head_of major size (length content)) (content ++ rest)
+  open_string : (major : ℕ) (size : Size) (content rest : List ℕ) → 2 ≤ major → major < 4 → MayStand g size (length content) → length content ≤ longest_string → (major ≡ 3 → IsUtf8 content) → IsOpen g room (head_of major size (length content)) (content ++ rest)
   open_string major size content rest a b may few text = record {
     major = omega arith;
     argument = may_fits g size (length content) may;
@@ -98,13 +99,13 @@ module _ (g : Grammar) (room : ℕ) (Part : Item → List ℕ → Type 0) (part 
     text = λ is. rw (take_at content rest (length content) refl) (is_utf8-from_IsUtf8 content (text is));
   }
 
-  plain_again : (major : ℕ) (size : Size) (n : ℕ) (text rest : List ℕ) → major < 7 → MayStand g size n → ((2 ≤ major) × (major < 4) → ⊥) → (4 ≤ major → 0 < room) → (4 ≤ major → major < 6 → n ≤ 4096) → text ≡ head major size n
+  plain_again : (major : ℕ) (size : Size) (n : ℕ) (text rest : List ℕ) → major < 7 → MayStand g size n → ((2 ≤ major) × (major < 4) → ⊥) → (4 ≤ major → 0 < room) → (4 ≤ major → major < 6 → n ≤ most_parts) → text ≡ head major size n
       → level g room part (text ++ rest) ≡ read_body g part (head_of major size n) rest
   plain_again major size n text rest lt may no_string deep few e =
       let o = open_plain major size n rest lt may no_string deep few in
       ap (λ (t : List ℕ). level g room part (t ++ rest)) e ∙ level_opens g room part (head major size n ++ rest) (head_of major size n) rest (opens g room major size n rest (free_below major size n lt (may_fits g size n may)) o)
 
-  string_again : (major : ℕ) (content text rest : List ℕ) → 2 ≤ major → major < 4 → length content ≤ 4198400 → (major ≡ 3 → IsUtf8 content) → Headed g major (length content) (λ r. r ≡ content) text
+  string_again : (major : ℕ) (content text rest : List ℕ) → 2 ≤ major → major < 4 → length content ≤ longest_string → (major ≡ 3 → IsUtf8 content) → Headed g major (length content) (λ r. r ≡ content) text
       → (size : Size) × (level g room part (text ++ rest) ≡ read_body g part (head_of major size (length content)) (content ++ rest))
   string_again major content text rest a b few utf8 (front, end, (size, may, fe), re, te) =
       let n = length content in
@@ -154,20 +155,20 @@ module _ (g : Grammar) (room : ℕ) (Part : Item → List ℕ → Type 0) (part 
       let bytes : text ++ rest ≡ front ++ (end ++ rest) = rw te (append_assoc front end rest) in
       let opened = plain_again 4 size n front (end ++ rest) (omega arith) may (λ p. absurd (omega arith)) (λ a. deep) (λ a b. few) fe in
       let read = each-again Part part again items end rest each in
-      ap (λ (t : List ℕ). level g room part t) bytes ∙ opened ∙ ap (λ r. r >>= λ x. let y : Out = Ok (record { node = Array x.0 }, x.1) in y) read
+      ap (λ (t : List ℕ). level g room part t) bytes ∙ opened ∙ ap (λ r. and_then r (λ x. let y : Out = Ok (record { node = Array x.0 }, x.1) in y)) read
       ∙ ap (λ (x : Node). let y : Out = Ok (record { node = x }, rest) in y) (sym (rolls-Array items))
   again_layer again (Node-F.Map pairs) text rest (deep, few, (front, end, (size, may, fe), each, te)) =
       let n = length pairs in
       let bytes : text ++ rest ≡ front ++ (end ++ rest) = rw te (append_assoc front end rest) in
       let opened = plain_again 5 size n front (end ++ rest) (omega arith) may (λ p. absurd (omega arith)) (λ a. deep) (λ a b. few) fe in
       let read = pairs-again g Part part again pairs end rest [] [] each in
-      ap (λ (t : List ℕ). level g room part t) bytes ∙ opened ∙ ap (λ r. r >>= λ x. let y : Out = Ok (record { node = Map x.0 }, x.1) in y) read
+      ap (λ (t : List ℕ). level g room part t) bytes ∙ opened ∙ ap (λ r. and_then r (λ x. let y : Out = Ok (record { node = Map x.0 }, x.1) in y)) read
       ∙ ap (λ (x : Node). let y : Out = Ok (record { node = x }, rest) in y) (sym (rolls-Map pairs))
   again_layer again (Node-F.Tag n item) text rest (deep, (front, end, (size, may, fe), p, te)) =
       let bytes : text ++ rest ≡ front ++ (end ++ rest) = rw te (append_assoc front end rest) in
       let opened = plain_again 6 size n front (end ++ rest) (omega arith) may (λ p. absurd (omega arith)) (λ a. deep) (λ a b. absurd (omega arith)) fe in
       let read = again item end rest p in
-      ap (λ (t : List ℕ). level g room part t) bytes ∙ opened ∙ ap (λ r. r >>= λ x. let y : Out = Ok (record { node = Tag n x.0 }, x.1) in y) read
+      ap (λ (t : List ℕ). level g room part t) bytes ∙ opened ∙ ap (λ r. and_then r (λ x. let y : Out = Ok (record { node = Tag n x.0 }, x.1) in y)) read
       ∙ ap (λ (x : Node). let y : Out = Ok (record { node = x }, rest) in y) (sym (rolls-Tag n item))
   again_layer again (Node-F.Simple n) text rest (inl (lt, e)) =
       seven_again Within n text rest lt (λ s. refl) (within_free n lt) e ∙ ap (λ (x : Node). let y : Out = Ok (record { node = x }, rest) in y) (sym (rolls-Simple n))

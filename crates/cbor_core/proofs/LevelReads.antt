@@ -13,15 +13,16 @@ use Rattle.cbor_core.specs.declared.heads.Stop.{Stop}
 use Rattle.cbor_core.specs.declared.tree.Item.{Item}
 use Rattle.cbor_core.specs.declared.tree.Node.{Node-F, out-Node}
 use Rattle.cbor_core.specs.declared.tree.Node.TheVariants.{Uint, Nint, Bytes, Text, Array, Map, Tag, outs-Uint, outs-Nint, outs-Bytes, outs-Text, outs-Array, outs-Map, outs-Tag, outs-Simple, outs-Float}
+use Rattle.cbor_core.specs.Limits.{longest_string, most_parts}
 use Rattle.cbor_core.specs.Bytes.{IsBytes}
 use Rattle.cbor_core.specs.Tree.{Layer}
 use Rattle.cbor_core.specs.Head.{information, limit, MayStand, IsHead, head, head_at, is_reserved}
 use Rattle.cbor_core.specs.Spells.{is_strict, SpellsLayer, Headed, IsFloat}
 use Rattle.cbor_core.specs.Faults.{row_of, is_float, StuckAtHead, StuckAfter, StuckInPairs, StuckInside}
-use Rattle.cbor_core.specs.Reading.{◌>>=◌, Reader, judged, opened_by, opened, read_each, read_pairs, read_body, read_leaf, leaf_read, seven, IsOpen}
+use Rattle.cbor_core.specs.Reading.{and_then, Reader, judged, opened_by, opened, read_each, read_pairs, read_body, read_leaf, leaf_read, seven, IsOpen}
 use Rattle.cbor_core.proofs.LevelLemmas.{level}
 use Rattle.cbor_core.proofs.RowLemmas.{IsOpen-from}
-use Rattle.cbor_core.proofs.StepLemmas.{IsBytes-after, bind_ok, bind_err, ok_is, err_is, ok_err, err_ok, chosen}
+use Rattle.cbor_core.proofs.StepLemmas.{IsBytes-after, steps_ok, steps_err, ok_is, err_is, ok_err, err_ok, chosen}
 use Rattle.cbor_core.proofs.HeadLemmas.{IsRead, head-read, may_stand}
 use Rattle.cbor_core.proofs.PartLemmas.{ReadsAgain, ReadsSpelled, StopsStuck, StuckStops, each-spelled, each-stops, each-stuck}
 use Rattle.cbor_core.proofs.PairLemmas.{pairs-spelled, pairs-stop, pairs-stuck}
@@ -83,35 +84,35 @@ module _ (g : Grammar) (room : ℕ) (Part : Item → List ℕ → Type 0) (part 
   moved : (h : Head) (bytes : List ℕ) (x y : Read) → ◌≡◌ {A = Result Read Stop} (Ok x) (Ok y) → Body h bytes x → Body h bytes y
   moved h bytes x y e b = subst (λ (z : Read). Body h bytes z) (ok_is x y e) b
 
-  array_spelled : ReadsSpelled Part part → (h : Head) (bytes : List ℕ) (y : Read) → IsBytes bytes → IsOpen g room h bytes → h.major ≡ 4 → (read_each part h.argument [] bytes >>= λ x. Ok (record { node = Array x.0 }, x.1)) ≡ Ok y → Body h bytes y
+  array_spelled : ReadsSpelled Part part → (h : Head) (bytes : List ℕ) (y : Read) → IsBytes bytes → IsOpen g room h bytes → h.major ≡ 4 → and_then (read_each part h.argument [] bytes) (λ x. Ok (record { node = Array x.0 }, x.1)) ≡ Ok y → Body h bytes y
   array_spelled spelled h bytes y fits o m e =
-      let b = bind_ok (read_each part h.argument [] bytes) (λ x. Ok (record { node = Array x.0 }, x.1)) y e in
+      let b = steps_ok (read_each part h.argument [] bytes) (λ x. Ok (record { node = Array x.0 }, x.1)) y e in
       let x = b.0 in
       let s = each-spelled Part part spelled h.argument [] bytes x.0 x.1 fits b.1 in
       let items = s.0 in
       let text = s.1 in
       let count : length items ≡ h.argument = s.3 in
-      let layer : SpellsLayer g room Part (Node-F.Array items) (head h.major h.size h.argument ++ text) = (o.room_left (omega arith) (omega arith), let few : h.argument ≤ 4096 = o.list_limit (omega arith) (omega arith) in omega arith, (head h.major h.size h.argument, text, is_head h bytes 4 (length items) o m count (omega arith), s.4, refl)) in
+      let layer : SpellsLayer g room Part (Node-F.Array items) (head h.major h.size h.argument ++ text) = (o.room_left (omega arith) (omega arith), let few : h.argument ≤ most_parts = o.list_limit (omega arith) (omega arith) in omega arith, (head h.major h.size h.argument, text, is_head h bytes 4 (length items) o m count (omega arith), s.4, refl)) in
       let found : Body h bytes (record { node = Array items }, x.1) = (text, subst (λ (l : Layer). SpellsLayer g room Part l (head h.major h.size h.argument ++ text)) (sym (outs-Array items)) layer, s.5) in
       let same : ◌≡◌ {A = Read} (record { node = Array items }, x.1) (record { node = Array x.0 }, x.1) = ap (λ (l : List Item). (record { node = Array l }, x.1)) (sym s.2) in
       moved h bytes (record { node = Array x.0 }, x.1) y b.2 (subst (λ (z : Read). Body h bytes z) same found)
 
-  map_spelled : ReadsSpelled Part part → (h : Head) (bytes : List ℕ) (y : Read) → IsBytes bytes → IsOpen g room h bytes → h.major ≡ 5 → (read_pairs g part h.argument [] [] bytes >>= λ x. Ok (record { node = Map x.0 }, x.1)) ≡ Ok y → Body h bytes y
+  map_spelled : ReadsSpelled Part part → (h : Head) (bytes : List ℕ) (y : Read) → IsBytes bytes → IsOpen g room h bytes → h.major ≡ 5 → and_then (read_pairs g part h.argument [] [] bytes) (λ x. Ok (record { node = Map x.0 }, x.1)) ≡ Ok y → Body h bytes y
   map_spelled spelled h bytes y fits o m e =
-      let b = bind_ok (read_pairs g part h.argument [] [] bytes) (λ x. Ok (record { node = Map x.0 }, x.1)) y e in
+      let b = steps_ok (read_pairs g part h.argument [] [] bytes) (λ x. Ok (record { node = Map x.0 }, x.1)) y e in
       let x = b.0 in
       let s = pairs-spelled g Part part spelled h.argument [] [] bytes x.0 x.1 fits b.1 in
       let pairs = s.0 in
       let text = s.1 in
       let count : length pairs ≡ h.argument = s.3 in
-      let layer : SpellsLayer g room Part (Node-F.Map pairs) (head h.major h.size h.argument ++ text) = (o.room_left (omega arith) (omega arith), let few : h.argument ≤ 4096 = o.list_limit (omega arith) (omega arith) in omega arith, (head h.major h.size h.argument, text, is_head h bytes 5 (length pairs) o m count (omega arith), s.4, refl)) in
+      let layer : SpellsLayer g room Part (Node-F.Map pairs) (head h.major h.size h.argument ++ text) = (o.room_left (omega arith) (omega arith), let few : h.argument ≤ most_parts = o.list_limit (omega arith) (omega arith) in omega arith, (head h.major h.size h.argument, text, is_head h bytes 5 (length pairs) o m count (omega arith), s.4, refl)) in
       let found : Body h bytes (record { node = Map pairs }, x.1) = (text, subst (λ (l : Layer). SpellsLayer g room Part l (head h.major h.size h.argument ++ text)) (sym (outs-Map pairs)) layer, s.5) in
       let same : ◌≡◌ {A = Read} (record { node = Map pairs }, x.1) (record { node = Map x.0 }, x.1) = ap (λ (l : List (Item × Item)). (record { node = Map l }, x.1)) (sym s.2) in
       moved h bytes (record { node = Map x.0 }, x.1) y b.2 (subst (λ (z : Read). Body h bytes z) same found)
 
-  tag_spelled : ReadsSpelled Part part → (h : Head) (bytes : List ℕ) (y : Read) → IsBytes bytes → IsOpen g room h bytes → h.major ≡ 6 → (part bytes >>= λ x. Ok (record { node = Tag h.argument x.0 }, x.1)) ≡ Ok y → Body h bytes y
+  tag_spelled : ReadsSpelled Part part → (h : Head) (bytes : List ℕ) (y : Read) → IsBytes bytes → IsOpen g room h bytes → h.major ≡ 6 → and_then (part bytes) (λ x. Ok (record { node = Tag h.argument x.0 }, x.1)) ≡ Ok y → Body h bytes y
   tag_spelled spelled h bytes y fits o m e =
-      let b = bind_ok (part bytes) (λ x. Ok (record { node = Tag h.argument x.0 }, x.1)) y e in
+      let b = steps_ok (part bytes) (λ x. Ok (record { node = Tag h.argument x.0 }, x.1)) y e in
       let x = b.0 in
       let s = spelled bytes x.0 x.1 fits b.1 in
       let layer : SpellsLayer g room Part (Node-F.Tag h.argument x.0) (head h.major h.size h.argument ++ s.0) = (o.room_left (omega arith) (omega arith), (head h.major h.size h.argument, s.0, is_head h bytes 6 h.argument o m refl (omega arith), s.1, refl)) in
@@ -128,7 +129,7 @@ module _ (g : Grammar) (room : ℕ) (Part : Item → List ℕ → Type 0) (part 
   bytes_spelled : (h : Head) (bytes : List ℕ) → IsOpen g room h bytes → h.major ≡ 2 → Body h bytes (record { node = Bytes (take h.argument bytes) }, drop h.argument bytes)
   bytes_spelled h bytes o m =
       let long = o.content (omega arith) (omega arith) in
-      let few : h.argument ≤ 4198400 = o.string_limit (omega arith) (omega arith) in
+      let few : h.argument ≤ longest_string = o.string_limit (omega arith) (omega arith) in
       let content = take h.argument bytes in
       let layer : SpellsLayer g room Part (Node-F.Bytes content) (head h.major h.size h.argument ++ content) = (omega (arith, length-take h.argument bytes), string_head h bytes 2 o m (omega arith) long) in
       (content, subst (λ (l : Layer). SpellsLayer g room Part l (head h.major h.size h.argument ++ content)) (sym (outs-Bytes content)) layer, sym (take-append-drop h.argument bytes))
@@ -136,7 +137,7 @@ module _ (g : Grammar) (room : ℕ) (Part : Item → List ℕ → Type 0) (part 
   text_spelled : (h : Head) (bytes : List ℕ) → IsOpen g room h bytes → h.major ≡ 3 → Body h bytes (record { node = Text (take h.argument bytes) }, drop h.argument bytes)
   text_spelled h bytes o m =
       let long = o.content (omega arith) (omega arith) in
-      let few : h.argument ≤ 4198400 = o.string_limit (omega arith) (omega arith) in
+      let few : h.argument ≤ longest_string = o.string_limit (omega arith) (omega arith) in
       let content = take h.argument bytes in
       let layer : SpellsLayer g room Part (Node-F.Text content) (head h.major h.size h.argument ++ content) = (omega (arith, length-take h.argument bytes), IsUtf8-from_is_utf8 content (o.text m), string_head h bytes 3 o m (omega arith) long) in
       (content, subst (λ (l : Layer). SpellsLayer g room Part l (head h.major h.size h.argument ++ content)) (sym (outs-Text content)) layer, sym (take-append-drop h.argument bytes))
@@ -191,9 +192,9 @@ module _ (g : Grammar) (room : ℕ) (Part : Item → List ℕ → Type 0) (part 
 
   body_spelled : ReadsSpelled Part part → (h : Head) (bytes : List ℕ) (y : Read) → IsBytes bytes → IsOpen g room h bytes → is_reserved (32 * h.major + information h.size h.argument) h.argument ≡ false → read_body g part h bytes ≡ Ok y → Body h bytes y
   body_spelled spelled h bytes y fits o free e =
-      let x4 : Result Read Stop = (read_each part h.argument [] bytes >>= λ x. Ok (record { node = Array x.0 }, x.1)) in
-      let x5 : Result Read Stop = (read_pairs g part h.argument [] [] bytes >>= λ x. Ok (record { node = Map x.0 }, x.1)) in
-      let x6 : Result Read Stop = (part bytes >>= λ x. Ok (record { node = Tag h.argument x.0 }, x.1)) in
+      let x4 : Result Read Stop = and_then (read_each part h.argument [] bytes) (λ x. Ok (record { node = Array x.0 }, x.1)) in
+      let x5 : Result Read Stop = and_then (read_pairs g part h.argument [] [] bytes) (λ x. Ok (record { node = Map x.0 }, x.1)) in
+      let x6 : Result Read Stop = and_then (part bytes) (λ x. Ok (record { node = Tag h.argument x.0 }, x.1)) in
       let x7 : Result Read Stop = leaf_read h bytes in
       let c6 : Result Read Stop = cond (h.major == 6) x6 x7 in
       let c5 : Result Read Stop = cond (h.major == 5) x5 c6 in
@@ -215,7 +216,7 @@ module _ (g : Grammar) (room : ℕ) (Part : Item → List ℕ → Type 0) (part 
 
   pub level-spelled : ReadsSpelled Part part → (bytes : List ℕ) (item : Item) (rest : List ℕ) → IsBytes bytes → level g room part bytes ≡ Ok (item, rest) → (text : List ℕ) × SpellsLayer g room Part (out-Node item.node) text × (bytes ≡ text ++ rest)
   level-spelled spelled bytes item rest fits e =
-      let b = bind_ok (opened g room bytes) (λ x. read_body g part x.0 x.1) (item, rest) e in
+      let b = steps_ok (opened g room bytes) (λ x. read_body g part x.0 x.1) (item, rest) e in
       let h = b.0.0 in
       let after = b.0.1 in
       let p = opened_read g room bytes h after fits b.1 in
@@ -231,24 +232,24 @@ module _ (g : Grammar) (room : ℕ) (Part : Item → List ℕ → Type 0) (part 
 
     body_stops : ReadsSpelled Part part → StopsStuck Inner part → (h : Head) (bytes : List ℕ) (stop : Stop) → IsBytes bytes → read_body g part h bytes ≡ Err stop → Inside h bytes stop.left stop.why
     body_stops spelled stops h bytes stop fits e =
-        let x4 : Result Read Stop = (read_each part h.argument [] bytes >>= λ x. Ok (record { node = Array x.0 }, x.1)) in
-        let x5 : Result Read Stop = (read_pairs g part h.argument [] [] bytes >>= λ x. Ok (record { node = Map x.0 }, x.1)) in
-        let x6 : Result Read Stop = (part bytes >>= λ x. Ok (record { node = Tag h.argument x.0 }, x.1)) in
+        let x4 : Result Read Stop = and_then (read_each part h.argument [] bytes) (λ x. Ok (record { node = Array x.0 }, x.1)) in
+        let x5 : Result Read Stop = and_then (read_pairs g part h.argument [] [] bytes) (λ x. Ok (record { node = Map x.0 }, x.1)) in
+        let x6 : Result Read Stop = and_then (part bytes) (λ x. Ok (record { node = Tag h.argument x.0 }, x.1)) in
         let x7 : Result Read Stop = leaf_read h bytes in
         let c6 : Result Read Stop = cond (h.major == 6) x6 x7 in
         let c5 : Result Read Stop = cond (h.major == 5) x5 c6 in
         elim (chosen (h.major == 4) x4 c5 (Err stop) e) [
-          | inl p ↦ elim (bind_err (read_each part h.argument [] bytes) (λ x. Ok (record { node = Array x.0 }, x.1)) stop p.1) [
+          | inl p ↦ elim (steps_err (read_each part h.argument [] bytes) (λ x. Ok (record { node = Array x.0 }, x.1)) stop p.1) [
             | inl now ↦ inl (eqb-true h.major 4 p.0, each-stops Part part Inner spelled stops h.argument [] bytes stop fits now)
             | inr b ↦ absurd (ok_err _ _ b.2)
           ]
           | inr p ↦ elim (chosen (h.major == 5) x5 c6 (Err stop) p.1) [
-            | inl q ↦ elim (bind_err (read_pairs g part h.argument [] [] bytes) (λ x. Ok (record { node = Map x.0 }, x.1)) stop q.1) [
+            | inl q ↦ elim (steps_err (read_pairs g part h.argument [] [] bytes) (λ x. Ok (record { node = Map x.0 }, x.1)) stop q.1) [
               | inl now ↦ inr (inl (eqb-true h.major 5 q.0, pairs-stop g Part part Inner spelled stops h.argument [] [] bytes stop fits now))
               | inr b ↦ absurd (ok_err _ _ b.2)
             ]
             | inr q ↦ elim (chosen (h.major == 6) x6 x7 (Err stop) q.1) [
-              | inl r ↦ elim (bind_err (part bytes) (λ x. Ok (record { node = Tag h.argument x.0 }, x.1)) stop r.1) [
+              | inl r ↦ elim (steps_err (part bytes) (λ x. Ok (record { node = Tag h.argument x.0 }, x.1)) stop r.1) [
                 | inl now ↦ inr (inr (eqb-true h.major 6 r.0, stops bytes stop fits now))
                 | inr b ↦ absurd (ok_err _ _ b.2)
               ]
@@ -262,7 +263,7 @@ module _ (g : Grammar) (room : ℕ) (Part : Item → List ℕ → Type 0) (part 
 
     pub level-stops : ReadsSpelled Part part → StopsStuck Inner part → (bytes : List ℕ) (stop : Stop) → IsBytes bytes → level g room part bytes ≡ Err stop → LevelStuck bytes stop.left stop.why
     level-stops spelled stops bytes stop fits e =
-        elim (bind_err (opened g room bytes) (λ x. read_body g part x.0 x.1) stop e) [
+        elim (steps_err (opened g room bytes) (λ x. read_body g part x.0 x.1) stop e) [
           | inl now ↦ inl (opened_err g room (length bytes) (head_at bytes) stop now)
           | inr b ↦
               let h = b.0.0 in
@@ -272,27 +273,27 @@ module _ (g : Grammar) (room : ℕ) (Part : Item → List ℕ → Type 0) (part 
               inr (h, after, ok.0, ok.1, body_stops spelled stops h after stop (IsBytes-after bytes (head h.major h.size h.argument) after fits read.parts) b.2)
         ]
 
-    body_4 : (h : Head) (bytes : List ℕ) → h.major ≡ 4 → read_body g part h bytes ≡ (read_each part h.argument [] bytes >>= λ x. Ok (record { node = Array x.0 }, x.1))
+    body_4 : (h : Head) (bytes : List ℕ) → h.major ≡ 4 → read_body g part h bytes ≡ and_then (read_each part h.argument [] bytes) (λ x. Ok (record { node = Array x.0 }, x.1))
     body_4 h bytes m = rw (eq-eqb h.major 4 m) refl
 
-    body_5 : (h : Head) (bytes : List ℕ) → h.major ≡ 5 → read_body g part h bytes ≡ (read_pairs g part h.argument [] [] bytes >>= λ x. Ok (record { node = Map x.0 }, x.1))
+    body_5 : (h : Head) (bytes : List ℕ) → h.major ≡ 5 → read_body g part h bytes ≡ and_then (read_pairs g part h.argument [] [] bytes) (λ x. Ok (record { node = Map x.0 }, x.1))
     body_5 h bytes m = rw (ne_eqb h.major 4 (λ e. absurd (omega arith)), eq-eqb h.major 5 m) refl
 
-    body_6 : (h : Head) (bytes : List ℕ) → h.major ≡ 6 → read_body g part h bytes ≡ (part bytes >>= λ x. Ok (record { node = Tag h.argument x.0 }, x.1))
+    body_6 : (h : Head) (bytes : List ℕ) → h.major ≡ 6 → read_body g part h bytes ≡ and_then (part bytes) (λ x. Ok (record { node = Tag h.argument x.0 }, x.1))
     body_6 h bytes m = rw (ne_eqb h.major 4 (λ e. absurd (omega arith)), ne_eqb h.major 5 (λ e. absurd (omega arith)), eq-eqb h.major 6 m) refl
 
     body_stuck : ReadsAgain Part part → StuckStops Inner part → (h : Head) (bytes : List ℕ) (left : ℕ) (why : Why) → Inside h bytes left why → read_body g part h bytes ≡ Err (record { left = left; why = why })
-    body_stuck again stuck h bytes left why (inl (m, w)) = body_4 h bytes m ∙ ap (λ r. r >>= λ x. Ok (record { node = Array x.0 }, x.1)) (each-stuck Part part Inner again stuck h.argument bytes left why w)
-    body_stuck again stuck h bytes left why (inr (inl (m, w))) = body_5 h bytes m ∙ ap (λ r. r >>= λ x. Ok (record { node = Map x.0 }, x.1)) (pairs-stuck g Part part Inner again stuck h.argument [] [] bytes left why w)
-    body_stuck again stuck h bytes left why (inr (inr (m, w))) = body_6 h bytes m ∙ ap (λ r. r >>= λ x. Ok (record { node = Tag h.argument x.0 }, x.1)) (stuck bytes left why w)
+    body_stuck again stuck h bytes left why (inl (m, w)) = body_4 h bytes m ∙ ap (λ r. and_then r (λ x. Ok (record { node = Array x.0 }, x.1))) (each-stuck Part part Inner again stuck h.argument bytes left why w)
+    body_stuck again stuck h bytes left why (inr (inl (m, w))) = body_5 h bytes m ∙ ap (λ r. and_then r (λ x. Ok (record { node = Map x.0 }, x.1))) (pairs-stuck g Part part Inner again stuck h.argument [] [] bytes left why w)
+    body_stuck again stuck h bytes left why (inr (inr (m, w))) = body_6 h bytes m ∙ ap (λ r. and_then r (λ x. Ok (record { node = Tag h.argument x.0 }, x.1))) (stuck bytes left why w)
 
     pub level-stuck : ReadsAgain Part part → StuckStops Inner part → (bytes : List ℕ) (left : ℕ) (why : Why) → LevelStuck bytes left why → level g room part bytes ≡ Err (record { left = left; why = why })
     level-stuck again stuck bytes left why (inl (inl e, l)) =
         let opened_is : opened g room bytes ≡ Err (record { left = length bytes; why = why }) = ap (λ r. opened_by g room (length bytes) r) e in
-        ap (λ r. r >>= λ x. read_body g part x.0 x.1) opened_is ∙ ap (λ (n : ℕ). Err (record { left = n; why = why })) (sym l)
+        ap (λ r. and_then r (λ x. read_body g part x.0 x.1)) opened_is ∙ ap (λ (n : ℕ). Err (record { left = n; why = why })) (sym l)
     level-stuck again stuck bytes left why (inl (inr (h, rest, e, row), l)) =
         let opened_is : opened g room bytes ≡ Err (record { left = length bytes; why = why }) = ap (λ r. opened_by g room (length bytes) r) e ∙ ap (λ o. judged (length bytes) o (h, rest)) row in
-        ap (λ r. r >>= λ x. read_body g part x.0 x.1) opened_is ∙ ap (λ (n : ℕ). Err (record { left = n; why = why })) (sym l)
+        ap (λ r. and_then r (λ x. read_body g part x.0 x.1)) opened_is ∙ ap (λ (n : ℕ). Err (record { left = n; why = why })) (sym l)
     level-stuck again stuck bytes left why (inr (h, rest, e, row, w)) =
         let opened_is : opened g room bytes ≡ Ok (h, rest) = ap (λ r. opened_by g room (length bytes) r) e ∙ ap (λ o. judged (length bytes) o (h, rest)) row in
-        ap (λ r. r >>= λ x. read_body g part x.0 x.1) opened_is ∙ body_stuck again stuck h rest left why w
+        ap (λ r. and_then r (λ x. read_body g part x.0 x.1)) opened_is ∙ body_stuck again stuck h rest left why w

@@ -10,6 +10,7 @@ pub mod LevelLemmas
 pub mod LevelReads
 pub mod ReadLaws
 pub mod DecodeLaws
+pub mod WholeLaws
 pub mod SpellParts
 pub mod CompareLemmas
 pub mod LengthLemmas

@@ -8,7 +8,7 @@ use Rattle.cbor_core.specs.Bytes.{IsBytes}
 use Rattle.cbor_core.specs.Spells.{SpellEach}
 use Rattle.cbor_core.specs.Faults.{StuckAfter}
 use Rattle.cbor_core.specs.Reading.{Reader, read_each}
-use Rattle.cbor_core.proofs.StepLemmas.{IsBytes-after, bind_ok, bind_err, ok_is, ok_err}
+use Rattle.cbor_core.proofs.StepLemmas.{IsBytes-after, steps_ok, steps_err, ok_is, ok_err}
 
 -- what is spelled is read again; what is read is spelled; a fault that is read is one; a fault that is one is read
 abbrev pub ReadsAgain : (Item → List ℕ → Type 0) → Reader → Type 0
@@ -52,7 +52,7 @@ module _ (Part : Item → List ℕ → Type 0) (part : Reader) where
       let p = ok_is (front, bytes) (all, rest) e in
       ([], [], sym (ap (λ x. x.0) p) ∙ sym (append-nil front), refl, refl, ap (λ x. x.1) p)
   each-spelled spelled (suc count) front bytes all rest fits e =
-      let b = bind_ok (part bytes) (λ x. read_each part count (front ++ x.0 ∷ []) x.1) (all, rest) e in
+      let b = steps_ok (part bytes) (λ x. read_each part count (front ++ x.0 ∷ []) x.1) (all, rest) e in
       let s = spelled bytes b.0.0 b.0.1 fits b.1 in
       let more = each-spelled spelled count (front ++ b.0.0 ∷ []) b.0.1 all rest (IsBytes-after bytes s.0 b.0.1 fits s.2) b.2 in
       (b.0.0 ∷ more.0, s.0 ++ more.1, more.2 ∙ append_assoc front (b.0.0 ∷ []) more.0, ap suc more.3, (s.0, more.1, s.1, more.4, refl), s.2 ∙ ap (λ (t : List ℕ). s.0 ++ t) more.5 ∙ sym (append_assoc s.0 more.1 rest))
@@ -63,7 +63,7 @@ module _ (Part : Item → List ℕ → Type 0) (part : Reader) where
     unfolding SpellEach read_each
     each-stops spelled stops zero front bytes stop fits e = absurd (ok_err (front, bytes) stop e)
     each-stops spelled stops (suc count) front bytes stop fits e =
-        elim (bind_err (part bytes) (λ x. read_each part count (front ++ x.0 ∷ []) x.1) stop e) [
+        elim (steps_err (part bytes) (λ x. read_each part count (front ++ x.0 ∷ []) x.1) stop e) [
           | inl now ↦ ([], [], bytes, omega arith, refl, stops bytes stop fits now, refl)
           | inr b ↦
               let s = spelled bytes b.0.0 b.0.1 fits b.1 in

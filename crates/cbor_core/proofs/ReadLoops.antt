@@ -1,16 +1,22 @@
 -- Reading so many parts one after the other, as a loop does.
-use Rattle.std.proofs.Common.{◌≡◌, ℕ, zero, suc, ◌-◌, ◌+◌, ◌≤◌, ◌<◌, List, [], ◌∷◌, ◌++◌, Result, Ok, refl, sym, arith}
+use Rattle.std.proofs.Common.{◌≡◌, ℕ, zero, suc, ◌-◌, ◌+◌, ◌≤◌, ◌<◌, List, [], ◌∷◌, ◌++◌, Result, Ok, Err, refl, sym, subst, arith}
+use Rattle.std.specs.Result.{IsErrAnd}
 use Rattle.cbor_core.specs.declared.words.Grammar.{Grammar}
 use Rattle.cbor_core.specs.declared.heads.Stop.{Stop}
 use Rattle.cbor_core.specs.declared.heads.ReadStop.{ReadStop}
 use Rattle.cbor_core.specs.declared.heads.ReadStop.TheVariants.{Memory, At}
 use Rattle.cbor_core.specs.declared.tree.Item.{Item}
-use Rattle.cbor_core.specs.Reading.{◌>>=◌, Reader, StopsAs, opened, read_body, part_in, read_each, read_pair, read_pairs, read_in}
+use Rattle.cbor_core.specs.Reading.{and_then, Reader, StopsAs, ReadsAs, opened, read_body, part_in, read_each, read_pair, read_pairs, read_in}
 
-pub read_in-is : (g : Grammar) (room : ℕ) (bytes : List ℕ) → read_in g room bytes ≡ (opened g room bytes >>= λ x. read_body g (part_in g room) x.0 x.1)
+pub read_in-is : (g : Grammar) (room : ℕ) (bytes : List ℕ) → read_in g room bytes ≡ and_then (opened g room bytes) (λ x. read_body g (part_in g room) x.0 x.1)
 unfolding read_in
 read_in-is g zero bytes = refl
 read_in-is g (suc room) bytes = refl
+
+-- a stop that a part gave, and that is handed on, is the stop of reading
+pub handed_on : {X Y : Type 0} (view : X → Y) (result : Result X ReadStop) (stop : ReadStop) (reading : Result Y Stop) → IsErrAnd result (λ e. e ≡ stop) → StopsAs stop reading → ReadsAs view result reading
+handed_on view (Ok given) stop reading is stops = absurd is
+handed_on view (Err own) stop reading is stops = subst (λ (e : ReadStop). StopsAs e reading) (sym is) stops
 
 -- one more of so many is still to read, or none is
 to_read : (count i : ℕ) → i < count → count - i ≡ suc (count - (i + 1))

@@ -4,7 +4,8 @@ use Rattle.std.proofs.lemmas.Bool.{cases_eq, cases_Bool, not-false, eqb-false, e
 use Rattle.std.specs.Str.{is_utf8}
 use Rattle.cbor_core.specs.declared.words.Grammar.{Grammar}
 use Rattle.cbor_core.specs.declared.heads.Head.{Head}
-use Rattle.cbor_core.specs.Rows.{first_row, NoRow}
+use Rattle.cbor_core.specs.Limits.{longest_string, most_parts}
+use Rattle.cbor_core.specs.Rows.{first_row}
 use Rattle.cbor_core.specs.Head.{limit, least}
 use Rattle.cbor_core.specs.Spells.{is_strict}
 use Rattle.cbor_core.specs.Faults.{is_string, is_list, is_float, rows, row_of}
@@ -13,6 +14,11 @@ use Rattle.cbor_core.specs.Reading.{IsOpen}
 step : {A : Type 0} (b : Bool) (x : A) (o : Option A) → cond b (Some x) o ≡ None → (b ≡ false) × (o ≡ None)
 step true x o e = absurd cc
 step false x o e = (refl, e)
+
+-- no test holds
+abbrev pub NoRow : {A : Type 0} → List (Bool × A) → Type 0
+NoRow [] = Unit {0}
+NoRow (row ∷ rows) = (row.0 ≡ false) × NoRow rows
 
 pub first_row_none : {A : Type 0} (rows : List (Bool × A)) → first_row rows ≡ None → NoRow rows
 first_row_none [] e = tt
@@ -60,8 +66,8 @@ IsOpen-from g room h rest m a e =
       argument = a;
       shortest = λ s lt. ltb-false h.argument (least h.size) (and3 (is_strict g) (nat_lt h.major 7) (nat_lt h.argument (least h.size)) n.0 s (lt-ltb h.major 7 lt));
       no_float = λ s is. and3 (is_strict g) (h.major == 7) (is_float h.size) n.1.0 s (eq-eqb h.major 7 is);
-      string_limit = λ x y. ltb-false 4198400 h.argument (and2 (is_string h.major) (nat_lt 4198400 h.argument) n.1.1.0 (is_string_true h.major x y));
-      list_limit = λ x y. ltb-false 4096 h.argument (and2 (is_list h.major) (nat_lt 4096 h.argument) n.1.1.1.0 (is_list_true h.major x y));
+      string_limit = λ x y. ltb-false longest_string h.argument (and2 (is_string h.major) (nat_lt longest_string h.argument) n.1.1.0 (is_string_true h.major x y));
+      list_limit = λ x y. ltb-false most_parts h.argument (and2 (is_list h.major) (nat_lt most_parts h.argument) n.1.1.1.0 (is_list_true h.major x y));
       room_left = λ x y. let ne : room ≡ 0 → ⊥ = eqb-false room 0 (and2 (is_list h.major || h.major == 6) (room == 0) n.1.1.1.1.0 (is_container_true h.major x y)) in omega arith;
       content = λ x y. ltb-false (length rest) h.argument (and2 (is_string h.major) (nat_lt (length rest) h.argument) n.1.1.1.1.1.0 (is_string_true h.major x y));
       text = λ is. not-false (is_utf8 (take h.argument rest)) (and2 (h.major == 3) (not (is_utf8 (take h.argument rest))) n.1.1.1.1.1.1.0 (eq-eqb h.major 3 is));
@@ -85,9 +91,9 @@ row-none g room h rest o =
       (
         strict_or g (h.major == 7) (is_float h.size) (λ s is. o.no_float s (eqb-true h.major 7 is)),
         (
-          elim (is_string_cases h.major) [ inl off ↦ and_left (is_string h.major) (nat_lt 4198400 h.argument) off | inr p ↦ and_right (is_string h.major) (nat_lt 4198400 h.argument) (le-ltb 4198400 h.argument (o.string_limit p.0 p.1)) ],
+          elim (is_string_cases h.major) [ inl off ↦ and_left (is_string h.major) (nat_lt longest_string h.argument) off | inr p ↦ and_right (is_string h.major) (nat_lt longest_string h.argument) (le-ltb longest_string h.argument (o.string_limit p.0 p.1)) ],
           (
-            elim (is_list_cases h.major) [ inl off ↦ and_left (is_list h.major) (nat_lt 4096 h.argument) off | inr p ↦ and_right (is_list h.major) (nat_lt 4096 h.argument) (le-ltb 4096 h.argument (o.list_limit p.0 p.1)) ],
+            elim (is_list_cases h.major) [ inl off ↦ and_left (is_list h.major) (nat_lt most_parts h.argument) off | inr p ↦ and_right (is_list h.major) (nat_lt most_parts h.argument) (le-ltb most_parts h.argument (o.list_limit p.0 p.1)) ],
             (
               elim (is_container_cases h.major) [ inl off ↦ and_left (is_list h.major || h.major == 6) (room == 0) off | inr p ↦ and_right (is_list h.major || h.major == 6) (room == 0) (let pos : 0 < room = o.room_left p.0 p.1 in ne_eqb room 0 (λ e. absurd (omega arith))) ],
               (

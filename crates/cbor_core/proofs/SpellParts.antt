@@ -6,6 +6,7 @@ use Rattle.std.proofs.lemmas.Bool.{and_parts, or_cases, and_left, cases_lt}
 use Rattle.cbor_core.specs.declared.words.Grammar.{Grammar}
 use Rattle.cbor_core.specs.declared.tree.Item.{Item}
 use Rattle.cbor_core.specs.declared.tree.Node.{Node-F, out-Node}
+use Rattle.cbor_core.specs.Limits.{longest_string, most_parts}
 use Rattle.cbor_core.specs.Head.{limit, least}
 use Rattle.cbor_core.specs.Tree.{Layer}
 use Rattle.cbor_core.specs.Spells.{is_strict}
@@ -83,26 +84,26 @@ simple_cases n e =
 pub whole-layer : (g : Grammar) (room : ℕ) (layer : Layer) → is_allowed g room layer ≡ true → IsWhole (head_layer layer)
 whole-layer g room (Node-F.Uint n) e = whole_below 0 n (omega arith) (ltb-true n (2 ^ 64) e)
 whole-layer g room (Node-F.Nint n) e = whole_below 1 n (omega arith) (ltb-true n (2 ^ 64) e)
-whole-layer g room (Node-F.Bytes bytes) e = let h : length bytes ≤ 4198400 = leb-true (length bytes) 4198400 e in whole_below 2 (length bytes) (omega arith) (omega arith)
+whole-layer g room (Node-F.Bytes bytes) e = let h : length bytes ≤ longest_string = leb-true (length bytes) longest_string e in whole_below 2 (length bytes) (omega arith) (omega arith)
 whole-layer g room (Node-F.Text bytes) e =
-    let p = and_parts (nat_le (length bytes) 4198400) (is_utf8 bytes) e in
-    let h : length bytes ≤ 4198400 = leb-true (length bytes) 4198400 p.0 in
+    let p = and_parts (nat_le (length bytes) longest_string) (is_utf8 bytes) e in
+    let h : length bytes ≤ longest_string = leb-true (length bytes) longest_string p.0 in
     whole_below 3 (length bytes) (omega arith) (omega arith)
 whole-layer g room (Node-F.Array items) e =
-    let p = and_parts (nat_lt 0 room) (nat_le (length items) 4096) e in
-    let h : length items ≤ 4096 = leb-true (length items) 4096 p.1 in
+    let p = and_parts (nat_lt 0 room) (nat_le (length items) most_parts) e in
+    let h : length items ≤ most_parts = leb-true (length items) most_parts p.1 in
     whole_below 4 (length items) (omega arith) (omega arith)
 whole-layer g room (Node-F.Map pairs) e =
-    let p = and_parts (nat_lt 0 room) (nat_le (length pairs) 4096) e in
-    let h : length pairs ≤ 4096 = leb-true (length pairs) 4096 p.1 in
+    let p = and_parts (nat_lt 0 room) (nat_le (length pairs) most_parts) e in
+    let h : length pairs ≤ most_parts = leb-true (length pairs) most_parts p.1 in
     whole_below 5 (length pairs) (omega arith) (omega arith)
 whole-layer g room (Node-F.Tag n item) e = let p = and_parts (nat_lt 0 room) (nat_lt n (2 ^ 64)) e in whole_below 6 n (omega arith) (ltb-true n (2 ^ 64) p.1)
 whole-layer g room (Node-F.Simple n) e = whole_simple n (simple_cases n e)
 whole-layer g room (Node-F.Float width bits) e = let p = and_parts (not (is_strict g)) (is_width width bits) e in whole_float width bits p.1
 
 -- where no container may be opened, there are no parts
-no_room : (n : ℕ) → (nat_lt 0 0 && nat_le n 4096) ≡ true → ⊥
-no_room n e = let p = and_parts (nat_lt 0 0) (nat_le n 4096) e in let lt : 0 < 0 = ltb-true 0 0 p.0 in omega arith
+no_room : (n : ℕ) → (nat_lt 0 0 && nat_le n most_parts) ≡ true → ⊥
+no_room n e = let p = and_parts (nat_lt 0 0) (nat_le n most_parts) e in let lt : 0 < 0 = ltb-true 0 0 p.0 in omega arith
 
 pub no-items : (g : Grammar) (layer : Layer) → is_allowed g 0 layer ≡ true → items_of layer ≡ []
 no-items g (Node-F.Uint n) e = refl
@@ -127,11 +128,11 @@ no-pairs g (Node-F.Simple n) e = refl
 no-pairs g (Node-F.Float width bits) e = refl
 
 -- a string that is allowed is no longer than the limit
-pub short-bytes : (g : Grammar) (room : ℕ) (layer : Layer) → is_allowed g room layer ≡ true → length (bytes_of layer) ≤ 4198400
+pub short-bytes : (g : Grammar) (room : ℕ) (layer : Layer) → is_allowed g room layer ≡ true → length (bytes_of layer) ≤ longest_string
 short-bytes g room (Node-F.Uint n) e = omega arith
 short-bytes g room (Node-F.Nint n) e = omega arith
-short-bytes g room (Node-F.Bytes bytes) e = leb-true (length bytes) 4198400 e
-short-bytes g room (Node-F.Text bytes) e = leb-true (length bytes) 4198400 (and_parts (nat_le (length bytes) 4198400) (is_utf8 bytes) e).0
+short-bytes g room (Node-F.Bytes bytes) e = leb-true (length bytes) longest_string e
+short-bytes g room (Node-F.Text bytes) e = leb-true (length bytes) longest_string (and_parts (nat_le (length bytes) longest_string) (is_utf8 bytes) e).0
 short-bytes g room (Node-F.Array items) e = omega arith
 short-bytes g room (Node-F.Map pairs) e = omega arith
 short-bytes g room (Node-F.Tag n item) e = omega arith

@@ -10,6 +10,7 @@ use Rattle.cbor_core.specs.declared.heads.Size.{Size}
 use Rattle.cbor_core.specs.declared.heads.Size.TheVariants.{Within, One}
 use Rattle.cbor_core.specs.declared.tree.Item.{Item}
 use Rattle.cbor_core.specs.declared.tree.Node.{Node-F, out-Node}
+use Rattle.cbor_core.specs.Limits.{longest_string, most_parts}
 use Rattle.cbor_core.specs.Head.{IsHead, head}
 use Rattle.cbor_core.specs.Tree.{Layer}
 use Rattle.cbor_core.specs.Spells.{Headed, SpellEach, SpellsLayer, SpellsIn}
@@ -37,14 +38,14 @@ module _ (room : ℕ) (Part : Item → List ℕ → Type 0) (part : Writer) wher
   unfolding spell_each spell_pairs
   layer_writes writes (Node-F.Uint n) text h = from_parts (Node-F.Uint n) [] [] text (lt-ltb n (2 ^ 64) (head_fits 0 n text h)) refl refl (number_text 0 n text h)
   layer_writes writes (Node-F.Nint n) text h = from_parts (Node-F.Nint n) [] [] text (lt-ltb n (2 ^ 64) (head_fits 1 n text h)) refl refl (number_text 1 n text h)
-  layer_writes writes (Node-F.Bytes bytes) text (few, headed) = from_parts (Node-F.Bytes bytes) [] [] text (le-leb (length bytes) 4198400 few) refl refl (string_text 2 bytes text headed).1
+  layer_writes writes (Node-F.Bytes bytes) text (few, headed) = from_parts (Node-F.Bytes bytes) [] [] text (le-leb (length bytes) longest_string few) refl refl (string_text 2 bytes text headed).1
   layer_writes writes (Node-F.Text bytes) text (few, utf8, headed) =
-      from_parts (Node-F.Text bytes) [] [] text (and_from (nat_le (length bytes) 4198400) (is_utf8 bytes) (le-leb (length bytes) 4198400 few) (is_utf8-from_IsUtf8 bytes utf8)) refl refl (string_text 3 bytes text headed).1
+      from_parts (Node-F.Text bytes) [] [] text (and_from (nat_le (length bytes) longest_string) (is_utf8 bytes) (le-leb (length bytes) longest_string few) (is_utf8-from_IsUtf8 bytes utf8)) refl refl (string_text 3 bytes text headed).1
   layer_writes writes (Node-F.Array items) text (deep, few, (front, rest, h, each, e)) =
-      from_parts (Node-F.Array items) rest [] text (and_from (nat_lt 0 room) (nat_le (length items) 4096) (lt-ltb 0 room deep) (le-leb (length items) 4096 few)) (each_writes Part part writes items rest each) refl
+      from_parts (Node-F.Array items) rest [] text (and_from (nat_lt 0 room) (nat_le (length items) most_parts) (lt-ltb 0 room deep) (le-leb (length items) most_parts few)) (each_writes Part part writes items rest each) refl
       (e ∙ (λ i. head_is 4 (length items) front h i ++ sym (append-nil rest) i))
   layer_writes writes (Node-F.Map pairs) text (deep, few, (front, rest, h, each, e)) =
-      from_parts (Node-F.Map pairs) [] rest text (and_from (nat_lt 0 room) (nat_le (length pairs) 4096) (lt-ltb 0 room deep) (le-leb (length pairs) 4096 few)) refl (pairs_writes Part part writes pairs [] [] rest each)
+      from_parts (Node-F.Map pairs) [] rest text (and_from (nat_lt 0 room) (nat_le (length pairs) most_parts) (lt-ltb 0 room deep) (le-leb (length pairs) most_parts few)) refl (pairs_writes Part part writes pairs [] [] rest each)
       (e ∙ ap (λ (t : List ℕ). t ++ rest) (head_is 5 (length pairs) front h))
   layer_writes writes (Node-F.Tag n item) text (deep, (front, rest, h, p, e)) =
       from_parts (Node-F.Tag n item) (rest ++ []) [] text (and_from (nat_lt 0 room) (nat_lt n (2 ^ 64)) (lt-ltb 0 room deep) (lt-ltb n (2 ^ 64) (head_fits 6 n front h))) (ap (λ (o : Option (List ℕ)). both o (Some [])) (writes item rest p)) refl
@@ -87,26 +88,26 @@ module _ (room : ℕ) (Part : Item → List ℕ → Type 0) where
       subst (λ (t : List ℕ). IsHead Strict 1 n t) (sym is) (is_head 1 n lt)
   layer_written writes written (Node-F.Bytes bytes) text e =
       let p = layer-parts Strict room (Node-F.Bytes bytes) text e in
-      let few : length bytes ≤ 4198400 = leb-true (length bytes) 4198400 p.allowed in
+      let few : length bytes ≤ longest_string = leb-true (length bytes) longest_string p.allowed in
       let n = length bytes in
       (few, (head 2 (size_of n) n, bytes, is_head 2 n (omega arith), refl, p.whole ∙ ap (λ (t : List ℕ). head 2 (size_of n) n ++ t) (bare bytes p.items p.pairs (some_is [] p.items p.items_is) (some_is [] p.pairs p.pairs_is))))
   layer_written writes written (Node-F.Text bytes) text e =
       let p = layer-parts Strict room (Node-F.Text bytes) text e in
-      let a = and_parts (nat_le (length bytes) 4198400) (is_utf8 bytes) p.allowed in
-      let few : length bytes ≤ 4198400 = leb-true (length bytes) 4198400 a.0 in
+      let a = and_parts (nat_le (length bytes) longest_string) (is_utf8 bytes) p.allowed in
+      let few : length bytes ≤ longest_string = leb-true (length bytes) longest_string a.0 in
       let n = length bytes in
       (few, IsUtf8-from_is_utf8 bytes a.1, (head 3 (size_of n) n, bytes, is_head 3 n (omega arith), refl, p.whole ∙ ap (λ (t : List ℕ). head 3 (size_of n) n ++ t) (bare bytes p.items p.pairs (some_is [] p.items p.items_is) (some_is [] p.pairs p.pairs_is))))
   layer_written writes written (Node-F.Array items) text e =
       let p = layer-parts Strict room (Node-F.Array items) text e in
-      let a = and_parts (nat_lt 0 room) (nat_le (length items) 4096) p.allowed in
-      let few : length items ≤ 4096 = leb-true (length items) 4096 a.1 in
+      let a = and_parts (nat_lt 0 room) (nat_le (length items) most_parts) p.allowed in
+      let few : length items ≤ most_parts = leb-true (length items) most_parts a.1 in
       let n = length items in
       let no_pairs : [] ≡ p.pairs = some_is [] p.pairs p.pairs_is in
       (ltb-true 0 room a.0, few, (head 4 (size_of n) n, p.items, is_head 4 n (omega arith), each_written Part (writer_in Strict room) written items p.items p.items_is, p.whole ∙ (λ i. head 4 (size_of n) n ++ (p.items ++ sym no_pairs i)) ∙ ap (λ (t : List ℕ). head 4 (size_of n) n ++ t) (append-nil p.items)))
   layer_written writes written (Node-F.Map pairs) text e =
       let p = layer-parts Strict room (Node-F.Map pairs) text e in
-      let a = and_parts (nat_lt 0 room) (nat_le (length pairs) 4096) p.allowed in
-      let few : length pairs ≤ 4096 = leb-true (length pairs) 4096 a.1 in
+      let a = and_parts (nat_lt 0 room) (nat_le (length pairs) most_parts) p.allowed in
+      let few : length pairs ≤ most_parts = leb-true (length pairs) most_parts a.1 in
       let n = length pairs in
       let no_items : [] ≡ p.items = some_is [] p.items p.items_is in
       (ltb-true 0 room a.0, few, (head 5 (size_of n) n, p.pairs, is_head 5 n (omega arith), pairs_written_all Part (writer_in Strict room) writes written pairs p.pairs p.pairs_is, p.whole ∙ (λ i. head 5 (size_of n) n ++ (sym no_items i ++ p.pairs))))

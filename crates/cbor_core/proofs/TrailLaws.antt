@@ -7,6 +7,7 @@ use Rattle.cbor_core.specs.declared.heads.Size.{Size}
 use Rattle.cbor_core.specs.declared.heads.Size.TheVariants.{One, Two, Four, Eight}
 use Rattle.cbor_core.specs.declared.heads.Head.{Head}
 use Rattle.cbor_core.specs.declared.tree.Item.{Item}
+use Rattle.cbor_core.specs.Limits.{most_containers}
 use Rattle.cbor_core.specs.Rows.{first_row}
 use Rattle.cbor_core.specs.Head.{head_at, sized}
 use Rattle.cbor_core.specs.Spells.{SpellsIn, key_row}
@@ -107,4 +108,4 @@ fine_stuck g (suc room) bytes left why (inl head) t = fine_at_head g (suc room) 
 fine_stuck g (suc room) bytes left why (inr inside) t = fine_inside g (suc room) (SpellsIn g room) (Stuck g room) (fine_stuck g room) bytes left why inside t
 
 pub never_trailing : NeverTrailing
-never_trailing = λ g depth bytes at why fault t. fine_stuck g (16 - depth) bytes (length bytes - at) why fault.1 t
+never_trailing = λ g depth bytes at why fault t. fine_stuck g (most_containers - depth) bytes (length bytes - at) why fault.1 t

@@ -6,7 +6,7 @@ use Rattle.cbor_core.specs.declared.words.Grammar.{Grammar}
 use Rattle.cbor_core.specs.declared.tree.Item.{Item}
 use Rattle.cbor_core.specs.declared.tree.Node.{out-Node}
 use Rattle.cbor_core.specs.Tree.{Layer}
-use Rattle.cbor_core.specs.Encoding.{both, Writer, is_allowed, bytes_of, items_of, pairs_of, head_text, head_layer, spell_each, spell_pairs, spell_in, writer_in, text_or, flat, IsWhole, HasRoomFor, Puts, GoesOn}
+use Rattle.cbor_core.specs.Encoding.{both, Writer, is_allowed, bytes_of, items_of, pairs_of, head_text, head_layer, spell_each, spell_pairs, spell_in, writer_in, text_or, flat, IsWhole, HasRoomFor, Puts}
 use Rattle.cbor_core.proofs.LengthSteps.{some_of}
 use Rattle.cbor_core.proofs.CompareSteps.{drop_item}
 use Rattle.cbor_core.proofs.SpellParts.{Parts, item-parts, whole-layer, no-items, no-pairs, writer-below, flat-some, some_is}
@@ -101,6 +101,10 @@ pub room-rest : (a b : Option (List ℕ)) (at end len : ℕ) → HasRoomFor (bot
 room-rest None b at end len r e = let n : is_some {T = List ℕ} None ≡ true = r.0 in absurd cc
 room-rest (Some x) None at end len r e = let n : is_some {T = List ℕ} None ≡ true = r.0 in absurd cc
 room-rest (Some x) (Some y) at end len r e = (refl, omega (arith, r.1, length-append x y))
+
+-- what is still to be put, behind what a buffer has up to this place, is what was to be put behind what it had up to that place
+abbrev pub GoesOn : Option (List ℕ) → ℕ → List ℕ → Option (List ℕ) → ℕ → List ℕ → Type 0
+GoesOn rest at new whole start old = (at + length (text_or rest) ≡ start + length (text_or whole)) × (take at new ++ text_or rest ≡ take start old ++ text_or whole)
 
 pub goes-rest : (a b whole : Option (List ℕ)) (at end start : ℕ) (new next old : List ℕ) → is_some (both a b) ≡ true → GoesOn (both a b) at new whole start old → Puts a at new next end → GoesOn b end next whole start old
 goes-rest None b whole at end start new next old e h p = let n : is_some {T = List ℕ} None ≡ true = e in absurd cc

@@ -9,6 +9,7 @@ use Rattle.cbor_core.specs.declared.words.DecodeStop.{DecodeStop}
 use Rattle.cbor_core.specs.declared.words.DecodeStop.TheVariants.{Fault as AtFault, OutOfMemory}
 use Rattle.cbor_core.specs.declared.heads.Stop.{Stop}
 use Rattle.cbor_core.specs.declared.tree.Item.{Item}
+use Rattle.cbor_core.specs.Limits.{most_containers}
 use Rattle.cbor_core.specs.Bytes.{IsBytes}
 use Rattle.cbor_core.specs.Tree.{same, is_key}
 use Rattle.cbor_core.specs.Spells.{Spells}
@@ -25,10 +26,14 @@ Decoded g bytes (Err OutOfMemory) = Unit {0}
 abbrev pub Trails : Grammar → List ℕ → Fault → Type 0
 Trails g bytes fault = (fault.why ≡ Trailing) × (fault.at < length bytes) × ((item : Item) × Spells g item (take fault.at bytes))
 
+-- why all the bytes together spell no item: their first fault, or bytes that follow an item
+abbrev pub WholeFault : Grammar → List ℕ → Fault → Type 0
+WholeFault g bytes fault = FaultIn g 0 bytes fault.at fault.why ⊎ Trails g bytes fault
+
 -- the same of a decoder that demands that nothing follows
 abbrev pub DecodedAll : Grammar → List ℕ → Result Item DecodeStop → Type 0
 DecodedAll g bytes (Ok item) = Spells g item bytes
-DecodedAll g bytes (Err (AtFault fault)) = FaultIn g 0 bytes fault.at fault.why ⊎ Trails g bytes fault
+DecodedAll g bytes (Err (AtFault fault)) = WholeFault g bytes fault
 DecodedAll g bytes (Err OutOfMemory) = Unit {0}
 
 -- some prefix of the bytes is spelled
@@ -59,6 +64,26 @@ NotBoth = (g : Grammar) (bytes : List ℕ) → HasPrefix g bytes → HasFault g 
 abbrev pub OneFault : Type 0
 OneFault = (g : Grammar) (bytes : List ℕ) (at other_at : ℕ) (why other_why : Why) → FaultIn g 0 bytes at why → FaultIn g 0 bytes other_at other_why → (at ≡ other_at) × (why ≡ other_why)
 
+-- all the bytes together spell an item, or they have a fault
+abbrev pub ItemOrFault : Type 0
+ItemOrFault = (g : Grammar) (bytes : List ℕ) → IsBytes bytes → ((item : Item) × Spells g item bytes) ⊎ ((fault : Fault) × WholeFault g bytes fault)
+
+-- and never both
+abbrev pub NeverBoth : Type 0
+NeverBoth = (g : Grammar) (bytes : List ℕ) (item : Item) (fault : Fault) → Spells g item bytes → WholeFault g bytes fault → ⊥
+
+-- and no two items
+abbrev pub OneItem : Type 0
+OneItem = (g : Grammar) (bytes : List ℕ) (a b : Item) → Spells g a bytes → Spells g b bytes → a ≡ b
+
+-- and no two faults
+abbrev pub OneWholeFault : Type 0
+OneWholeFault = (g : Grammar) (bytes : List ℕ) (a b : Fault) → WholeFault g bytes a → WholeFault g bytes b → a ≡ b
+
+-- no item is spelled without bytes
+abbrev pub NoneIsEmpty : Type 0
+NoneIsEmpty = (g : Grammar) (item : Item) → Spells g item [] → ⊥
+
 -- what is spelled is decoded to the item, whatever follows, unless memory runs out
 abbrev pub RoundTrip : Type 0
 RoundTrip = (g : Grammar) (item : Item) (text rest : List ℕ) (answer : Result (Item × ℕ) DecodeStop) → Spells g item text → Decoded g (text ++ rest) answer → (answer ≡ Ok (item, length text)) ⊎ (answer ≡ Err OutOfMemory)
@@ -71,7 +96,7 @@ whole (Err stop) = None
 
 -- the item that the bytes strictly spell, if they spell one
 unfoldable pub strict_item : List ℕ → Option Item
-strict_item bytes = whole (read_in Strict 16 bytes)
+strict_item bytes = whole (read_in Strict most_containers bytes)
 
 -- what it gives is spelled so
 abbrev pub ItemIsSpelled : Type 0

@@ -13,6 +13,7 @@ use Rattle.cbor_core.specs.declared.heads.Size.TheVariants.{Within, One, Two, Fo
 use Rattle.cbor_core.specs.declared.heads.Head.{Head}
 use Rattle.cbor_core.specs.declared.tree.Item.{Item}
 use Rattle.cbor_core.specs.declared.tree.Node.{Node-F, out-Node}
+use Rattle.cbor_core.specs.Limits.{longest_string, most_parts}
 use Rattle.cbor_core.specs.Bytes.{is_below}
 use Rattle.cbor_core.specs.Head.{head, limit, information, is_reserved}
 use Rattle.cbor_core.specs.Spells.{is_strict, Spells}
@@ -70,10 +71,10 @@ float_size width = if width == 2 then Two else (if width == 4 then Four else Eig
 abbrev pub is_allowed : Grammar → ℕ → Layer → Bool
 is_allowed g room (Node-F.Uint n) = nat_lt n (2 ^ 64)
 is_allowed g room (Node-F.Nint n) = nat_lt n (2 ^ 64)
-is_allowed g room (Node-F.Bytes bytes) = nat_le (length bytes) 4198400
-is_allowed g room (Node-F.Text bytes) = nat_le (length bytes) 4198400 && is_utf8 bytes
-is_allowed g room (Node-F.Array items) = nat_lt 0 room && nat_le (length items) 4096
-is_allowed g room (Node-F.Map pairs) = nat_lt 0 room && nat_le (length pairs) 4096
+is_allowed g room (Node-F.Bytes bytes) = nat_le (length bytes) longest_string
+is_allowed g room (Node-F.Text bytes) = nat_le (length bytes) longest_string && is_utf8 bytes
+is_allowed g room (Node-F.Array items) = nat_lt 0 room && nat_le (length items) most_parts
+is_allowed g room (Node-F.Map pairs) = nat_lt 0 room && nat_le (length pairs) most_parts
 is_allowed g room (Node-F.Tag n item) = nat_lt 0 room && nat_lt n (2 ^ 64)
 is_allowed g room (Node-F.Simple n) = nat_lt n 24 || nat_le 32 n && nat_lt n (2 ^ 8)
 is_allowed g room (Node-F.Float width bits) = not (is_strict g) && is_width width bits
@@ -190,10 +191,6 @@ HasRoomFor spelled at len = IsSome spelled × (at + length (text_or spelled) ≤
 -- a buffer has the text behind what stood before this place, up to the end
 abbrev pub Puts : Option (List ℕ) → ℕ → List ℕ → List ℕ → ℕ → Type 0
 Puts spelled at old new end = (end ≡ at + length (text_or spelled)) × (take end new ≡ take at old ++ text_or spelled)
-
--- what is still to be put, behind what a buffer has up to this place, is what was to be put behind what it had up to that place
-abbrev pub GoesOn : Option (List ℕ) → ℕ → List ℕ → Option (List ℕ) → ℕ → List ℕ → Type 0
-GoesOn rest at new whole start old = (at + length (text_or rest) ≡ start + length (text_or whole)) × (take at new ++ text_or rest ≡ take start old ++ text_or whole)
 
 -- the first byte in which two texts differ is smaller in the first of them
 abbrev pub Differs : List ℕ → List ℕ → Type 0

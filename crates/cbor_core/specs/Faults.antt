@@ -8,6 +8,7 @@ use Rattle.cbor_core.specs.declared.heads.Size.{Size}
 use Rattle.cbor_core.specs.declared.heads.Size.TheVariants.{Within, One, Two, Four, Eight}
 use Rattle.cbor_core.specs.declared.heads.Head.{Head}
 use Rattle.cbor_core.specs.declared.tree.Item.{Item}
+use Rattle.cbor_core.specs.Limits.{longest_string, most_parts, most_containers}
 use Rattle.cbor_core.specs.Rows.{first_row}
 use Rattle.cbor_core.specs.Head.{head_at, least}
 use Rattle.cbor_core.specs.Spells.{is_strict, key_row, SpellEach, SpellsIn}
@@ -38,10 +39,10 @@ float_here g h = is_strict g && (h.major == 7 && is_float h.size)
 
 -- a string over 4,198,400 bytes, or over 4,096 items or pairs
 abbrev pub string_too_long : Head → Bool
-string_too_long h = is_string h.major && nat_lt 4198400 h.argument
+string_too_long h = is_string h.major && nat_lt longest_string h.argument
 
 abbrev pub list_too_long : Head → Bool
-list_too_long h = is_list h.major && nat_lt 4096 h.argument
+list_too_long h = is_list h.major && nat_lt most_parts h.argument
 
 -- an array, a map or a tag where no container may be opened
 abbrev pub too_deep : ℕ → Head → Bool
@@ -106,4 +107,4 @@ Stuck g (suc room) bytes left why =
 
 -- inside so many containers, the first fault of the bytes is at this place, counted from 0, for this reason
 abbrev pub FaultIn : Grammar → ℕ → List ℕ → ℕ → Why → Type 0
-FaultIn g depth bytes at why = (at ≤ length bytes) × Stuck g (16 - depth) bytes (length bytes - at) why
+FaultIn g depth bytes at why = (at ≤ length bytes) × Stuck g (most_containers - depth) bytes (length bytes - at) why

@@ -1,5 +1,6 @@
 pub mod Bytes
 pub mod Rows
+pub mod Limits
 pub mod Head
 pub mod Tree
 pub mod Spells

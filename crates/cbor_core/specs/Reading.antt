@@ -12,16 +12,17 @@ use Rattle.cbor_core.specs.declared.heads.ReadStop.TheVariants.{Memory, At}
 use Rattle.cbor_core.specs.declared.tree.Item.{Item}
 use Rattle.cbor_core.specs.declared.tree.Node.TheVariants.{Uint, Nint, Bytes, Text, Array, Map, Tag, Simple, Float}
 use Rattle.std.specs.Str.{is_utf8}
+use Rattle.cbor_core.specs.Limits.{longest_string, most_parts}
 use Rattle.cbor_core.specs.Head.{head_at, limit, least}
 use Rattle.cbor_core.specs.Bytes.{is_below}
 use Rattle.cbor_core.specs.declared.words.Grammar.TheVariants.{Strict}
 use Rattle.cbor_core.specs.Spells.{is_strict, key_row, SpellsIn}
 use Rattle.cbor_core.specs.Faults.{row_of, is_float}
 
-infixl 10 ◌>>=◌
-abbrev pub ◌>>=◌ : {A B E : Type 0} → Result A E → (A → Result B E) → Result B E
-(Ok x) >>= f = f x
-(Err e) >>= f = Err e
+-- what was given goes on to the next step, and a fault ends both
+abbrev pub and_then : {A B E : Type 0} → Result A E → (A → Result B E) → Result B E
+and_then (Err fault) next = Err fault
+and_then (Ok given) next = next given
 
 -- a row that applies is the fault
 abbrev pub judged : {A : Type 0} → ℕ → Option Why → A → Result A Stop
@@ -44,21 +45,28 @@ Reader = List ℕ → Result (Item × List ℕ) Stop
 -- so many items more behind those in front
 unfoldable pub read_each : Reader → ℕ → List Item → List ℕ → Result (List Item × List ℕ) Stop
 read_each part zero front bytes = Ok (front, bytes)
-read_each part (suc count) front bytes = part bytes >>= λ x. read_each part count (front ++ x.0 ∷ []) x.1
+read_each part (suc count) front bytes = and_then (part bytes) (λ x. read_each part count (front ++ x.0 ∷ []) x.1)
 
 -- the part of the bytes before the rest
 abbrev pub front_of : List ℕ → List ℕ → List ℕ
 front_of bytes rest = take (length bytes - length rest) bytes
 
+-- behind a key that was read: the value, and with it the pair, the spelling of its key, and what follows
+abbrev pub read_value : Reader → List ℕ → Item × List ℕ → Result ((Item × Item) × (List ℕ × List ℕ)) Stop
+read_value part bytes key = and_then (part key.1) (λ value. Ok ((key.0, value.0), (front_of bytes key.1, value.1)))
+
+-- the same of a key that may stand behind the earlier ones
+abbrev pub read_keyed : Grammar → Reader → List (Item × Item) → List ℕ → List ℕ → Item × List ℕ → Result ((Item × Item) × (List ℕ × List ℕ)) Stop
+read_keyed g part earlier last bytes key = and_then (judged (length bytes) (key_row g earlier last key.0 (front_of bytes key.1)) key) (read_value part bytes)
+
 -- the pair at the front, the spelling of its key, and what follows
 abbrev pub read_pair : Grammar → Reader → List (Item × Item) → List ℕ → List ℕ → Result ((Item × Item) × (List ℕ × List ℕ)) Stop
-read_pair g part earlier last bytes =
-    part bytes >>= λ k. judged (length bytes) (key_row g earlier last k.0 (front_of bytes k.1)) k >>= λ j. part j.1 >>= λ v. Ok ((j.0, v.0), (front_of bytes j.1, v.1))
+read_pair g part earlier last bytes = and_then (part bytes) (read_keyed g part earlier last bytes)
 
 -- so many pairs more behind the earlier ones
 unfoldable pub read_pairs : Grammar → Reader → ℕ → List (Item × Item) → List ℕ → List ℕ → Result (List (Item × Item) × List ℕ) Stop
 read_pairs g part zero earlier last bytes = Ok (earlier, bytes)
-read_pairs g part (suc count) earlier last bytes = read_pair g part earlier last bytes >>= λ x. read_pairs g part count (earlier ++ x.0 ∷ []) x.1.0 x.1.1
+read_pairs g part (suc count) earlier last bytes = and_then (read_pair g part earlier last bytes) (λ x. read_pairs g part count (earlier ++ x.0 ∷ []) x.1.0 x.1.1)
 
 -- a simple value or a float, by the size of its head
 abbrev pub seven : Size → ℕ → Item
@@ -84,9 +92,9 @@ leaf_read h rest = Ok (read_leaf h rest)
 -- the item behind a head that no row refuses
 abbrev pub read_body : Grammar → Reader → Head → List ℕ → Result (Item × List ℕ) Stop
 read_body g part h rest =
-    if h.major == 4 then (read_each part h.argument [] rest >>= λ x. Ok (record { node = Array x.0 }, x.1))
-    else (if h.major == 5 then (read_pairs g part h.argument [] [] rest >>= λ x. Ok (record { node = Map x.0 }, x.1))
-    else (if h.major == 6 then (part rest >>= λ x. Ok (record { node = Tag h.argument x.0 }, x.1))
+    if h.major == 4 then and_then (read_each part h.argument [] rest) (λ x. Ok (record { node = Array x.0 }, x.1))
+    else (if h.major == 5 then and_then (read_pairs g part h.argument [] [] rest) (λ x. Ok (record { node = Map x.0 }, x.1))
+    else (if h.major == 6 then and_then (part rest) (λ x. Ok (record { node = Tag h.argument x.0 }, x.1))
     else leaf_read h rest))
 
 -- the readers of parts where no container may be opened: they are never asked
@@ -95,8 +103,8 @@ no_part rest = Err (record { left = length rest; why = TooDeep })
 
 -- the item at the front, with so many containers still to open
 unfoldable pub read_in : Grammar → ℕ → Reader
-read_in g zero bytes = opened g 0 bytes >>= λ x. read_body g no_part x.0 x.1
-read_in g (suc room) bytes = opened g (suc room) bytes >>= λ x. read_body g (read_in g room) x.0 x.1
+read_in g zero bytes = and_then (opened g 0 bytes) (λ x. read_body g no_part x.0 x.1)
+read_in g (suc room) bytes = and_then (opened g (suc room) bytes) (λ x. read_body g (read_in g room) x.0 x.1)
 
 -- the reader of the parts of a container
 abbrev pub part_in : Grammar → ℕ → Reader
@@ -109,8 +117,8 @@ pub record IsOpen (g : Grammar) (room : ℕ) (h : Head) (rest : List ℕ) : Type
   pub argument : h.argument < limit h.size
   pub shortest : is_strict g ≡ true → h.major < 7 → least h.size ≤ h.argument
   pub no_float : is_strict g ≡ true → h.major ≡ 7 → is_float h.size ≡ false
-  pub string_limit : 2 ≤ h.major → h.major < 4 → h.argument ≤ 4198400
-  pub list_limit : 4 ≤ h.major → h.major < 6 → h.argument ≤ 4096
+  pub string_limit : 2 ≤ h.major → h.major < 4 → h.argument ≤ longest_string
+  pub list_limit : 4 ≤ h.major → h.major < 6 → h.argument ≤ most_parts
   pub room_left : 4 ≤ h.major → h.major < 7 → 0 < room
   pub content : 2 ≤ h.major → h.major < 4 → h.argument ≤ length rest
   pub text : h.major ≡ 3 → is_utf8 (take h.argument rest) ≡ true

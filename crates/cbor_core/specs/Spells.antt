@@ -9,6 +9,7 @@ use Rattle.cbor_core.specs.declared.words.Why.TheVariants.{DupKey, KeyOrder}
 use Rattle.cbor_core.specs.declared.heads.Size.TheVariants.{Within, One, Two, Four, Eight}
 use Rattle.cbor_core.specs.declared.tree.Item.{Item}
 use Rattle.cbor_core.specs.declared.tree.Node.{Node-F, out-Node}
+use Rattle.cbor_core.specs.Limits.{longest_string, most_parts, most_containers}
 use Rattle.cbor_core.specs.Bytes.{is_below}
 use Rattle.cbor_core.specs.Head.{IsHead, head, limit}
 use Rattle.cbor_core.specs.Tree.{Layer, is_key}
@@ -55,10 +56,10 @@ IsFloat Wide width bits text =
 abbrev pub SpellsLayer : Grammar → ℕ → (Item → List ℕ → Type 0) → Layer → List ℕ → Type 0
 SpellsLayer g room Part (Node-F.Uint n) text = IsHead g 0 n text
 SpellsLayer g room Part (Node-F.Nint n) text = IsHead g 1 n text
-SpellsLayer g room Part (Node-F.Bytes bytes) text = (length bytes ≤ 4198400) × Headed g 2 (length bytes) (λ rest. rest ≡ bytes) text
-SpellsLayer g room Part (Node-F.Text bytes) text = (length bytes ≤ 4198400) × IsUtf8 bytes × Headed g 3 (length bytes) (λ rest. rest ≡ bytes) text
-SpellsLayer g room Part (Node-F.Array items) text = (0 < room) × (length items ≤ 4096) × Headed g 4 (length items) (SpellEach Part items) text
-SpellsLayer g room Part (Node-F.Map pairs) text = (0 < room) × (length pairs ≤ 4096) × Headed g 5 (length pairs) (SpellPairs g Part [] [] pairs) text
+SpellsLayer g room Part (Node-F.Bytes bytes) text = (length bytes ≤ longest_string) × Headed g 2 (length bytes) (λ rest. rest ≡ bytes) text
+SpellsLayer g room Part (Node-F.Text bytes) text = (length bytes ≤ longest_string) × IsUtf8 bytes × Headed g 3 (length bytes) (λ rest. rest ≡ bytes) text
+SpellsLayer g room Part (Node-F.Array items) text = (0 < room) × (length items ≤ most_parts) × Headed g 4 (length items) (SpellEach Part items) text
+SpellsLayer g room Part (Node-F.Map pairs) text = (0 < room) × (length pairs ≤ most_parts) × Headed g 5 (length pairs) (SpellPairs g Part [] [] pairs) text
 SpellsLayer g room Part (Node-F.Tag n item) text = (0 < room) × Headed g 6 n (Part item) text
 SpellsLayer g room Part (Node-F.Simple n) text = IsSimple n text
 SpellsLayer g room Part (Node-F.Float width bits) text = IsFloat g width bits text
@@ -70,4 +71,4 @@ SpellsIn g (suc room) item text = SpellsLayer g (suc room) (SpellsIn g room) (ou
 
 -- the text spells the item: an array, a map or a tag stands inside at most 15 others
 unfoldable pub Spells : Grammar → Item → List ℕ → Type 0
-Spells g item text = SpellsIn g 16 item text
+Spells g item text = SpellsIn g most_containers item text

@@ -2,17 +2,16 @@ ghost use Rattle.cbor_core.specs.declared.words.Grammar.TheVariants.{Strict, Wid
 ghost use Rattle.cbor_core.specs.Decoding.{Decoded, DecodedAll};
 
 use crate::heads::ReadStop;
+use crate::limits::MOST_CONTAINERS;
 use crate::reading::item_of;
 use crate::tree::Item;
 use crate::words::{DecodeStop, Fault, Grammar, Why};
 use std::alloc::Global;
 
-const ROOM: u8 = 16;
-
 fn decode(alloc: Global, g: Grammar, bytes: &[u8]) -> Result<(Item, usize), DecodeStop>
     ensures { Decoded g bytes.now result }
 {
-    match item_of(alloc, g, ROOM, bytes) {
+    match item_of(alloc, g, MOST_CONTAINERS, bytes) {
         Ok((item, rest)) => Ok((item, bytes.len().saturating_sub(rest.len()))),
         Err(ReadStop::Memory) => Err(DecodeStop::OutOfMemory),
         Err(ReadStop::At(stop)) => {

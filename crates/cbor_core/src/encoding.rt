@@ -1,16 +1,15 @@
-ghost use Rattle.std.specs.Prelude.{◌≡◌, length, Some, IfOk};
+ghost use Rattle.std.specs.Prelude.{◌≡◌, length, replicate, Some, IfOk};
 ghost use Rattle.cbor_core.specs.declared.words.Grammar.TheVariants.{Strict};
 ghost use Rattle.cbor_core.specs.Spells.{Spells};
 ghost use Rattle.cbor_core.specs.Encoding.{HasLength, Encoded};
 
+use crate::limits::MOST_CONTAINERS;
 use crate::measuring::item_len;
 use crate::strings::Bytes;
 use crate::tree::Item;
 use crate::words::{EncodeStop, Grammar};
 use crate::writing::put_item;
 use std::alloc::{AllocError, Global};
-
-const ROOM: u8 = 16;
 
 /// How many bytes spell the item in the strict grammar (RFC 8949, 4.2.1).
 ///
@@ -20,7 +19,7 @@ const ROOM: u8 = 16;
 pub fn encoded_len(item: &Item) -> Option<usize>
     ensures { HasLength item.now result }
 {
-    item_len(Grammar::Strict, ROOM, item)
+    item_len(Grammar::Strict, MOST_CONTAINERS, item)
 }
 
 /// Writes the strict bytes of the item. The buffer's length has to be `encoded_len`. It takes no memory.
@@ -28,7 +27,7 @@ pub fn encode_into(item: &Item, buf: &mut [u8])
     requires { HasLength item.now (Some (length buf.old)) }
     ensures { Spells Strict item.now buf.new }
 {
-    let _end = put_item(Grammar::Strict, ROOM, item, buf, 0);
+    let _end = put_item(Grammar::Strict, MOST_CONTAINERS, item, buf, 0);
 }
 
 /// The strict bytes of the item. `NotStrict` comes exactly where `encoded_len` is `None`.
@@ -47,7 +46,8 @@ pub fn encode(alloc: Global, item: &Item) -> Result<Bytes, EncodeStop>
 
 /// So many zeros.
 pub fn zeros(alloc: Global, len: usize) -> Result<Vec<u8>, AllocError>
-    ensures { IfOk result (λ v. length v.items ≡ len) }
+    ensures len { IfOk result (λ v. length v.items ≡ len) }
+    ensures zeros { IfOk result (λ v. v.items ≡ replicate len 0) }
 {
     vec![in alloc; 0; len]
 }

@@ -1,4 +1,4 @@
-ghost use Rattle.cbor_core.specs.Decoding.{PrefixFree, OneStrictSpelling, RoundTrip, PrefixOrFault, NotBoth, OneFault, NeverTrailing, SameIsEqual, KeyIsAmong, ItemIsSpelled, SpelledIsItem};
+ghost use Rattle.cbor_core.specs.Decoding.{PrefixFree, OneStrictSpelling, RoundTrip, PrefixOrFault, NotBoth, OneFault, NeverTrailing, ItemOrFault, NeverBoth, OneItem, OneWholeFault, NoneIsEmpty, SameIsEqual, KeyIsAmong, ItemIsSpelled, SpelledIsItem};
 
 /// A law: in either grammar no spelling is a proper prefix of another, and equal texts spell equal items.
 pub fn spellings_are_prefix_free()
@@ -11,6 +11,16 @@ pub fn bytes_have_one_answer()
     ensures not_both { NotBoth }
     ensures one_fault { OneFault }
     ensures never_trailing { NeverTrailing }
+{}
+
+/// A law: for all bytes exactly one holds, all of them together spell one item, or they have one fault, the first one in
+/// reading order or that bytes follow an item. No bytes at all spell no item.
+pub fn whole_bytes_have_one_answer()
+    ensures either { ItemOrFault }
+    ensures not_both { NeverBoth }
+    ensures one_item { OneItem }
+    ensures one_fault { OneWholeFault }
+    ensures not_empty { NoneIsEmpty }
 {}
 
 /// A law: `strict_item` gives an item exactly where the bytes strictly spell it.

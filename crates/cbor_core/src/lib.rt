@@ -6,6 +6,7 @@ mod decoding;
 mod encoding;
 mod heads;
 mod laws;
+mod limits;
 mod marks;
 mod measuring;
 mod node_heads;
@@ -22,9 +23,10 @@ pub use encoding::{encode, encode_into, encoded_len};
 pub use laws::{
     bytes_have_one_answer, keys_are_compared_as_items, spelled_is_decoded,
     spellings_are_prefix_free, strict_item_is_exact, strict_spelling_is_unique,
+    whole_bytes_have_one_answer,
 };
 pub use order::below;
-pub use same::same_item;
+pub use same::{has_key, same_item};
 pub use strings::{Bytes, Text};
 pub use tree::{Item, Node, Pairs};
 pub use words::{DecodeStop, EncodeStop, Fault, Grammar, Why};

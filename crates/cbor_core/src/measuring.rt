@@ -4,6 +4,7 @@ ghost use Rattle.cbor_core.specs.Encoding.{size_of, head_size, len_of, sum_len, 
 
 use crate::comparing::compare_item;
 use crate::heads::Size;
+use crate::limits::{LONGEST_STRING, MOST_PARTS};
 use crate::node_heads::{bytes_in, items_in, node_head, pairs_in};
 use crate::reading::is_strict;
 use crate::tree::{Item, Node};
@@ -67,13 +68,13 @@ fn is_allowed(g: Grammar, room: u8, node: &Node) -> bool
             let _argument = *n;
             true
         }
-        Node::Bytes(bytes) => bytes.len() <= 4_198_400,
+        Node::Bytes(bytes) => bytes.len() as u64 <= LONGEST_STRING,
         Node::Text(text) => {
             let text = text.as_slice();
-            text.len() <= 4_198_400
+            text.len() as u64 <= LONGEST_STRING
         }
-        Node::Array(items) => room > 0 && items.len() <= 4096,
-        Node::Map(pairs) => room > 0 && pairs.len() <= 4096,
+        Node::Array(items) => room > 0 && items.len() as u64 <= MOST_PARTS,
+        Node::Map(pairs) => room > 0 && pairs.len() as u64 <= MOST_PARTS,
         Node::Tag(n, _) => {
             let _argument = *n;
             room > 0

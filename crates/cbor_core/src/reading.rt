@@ -10,6 +10,7 @@ ghost use Rattle.cbor_core.specs.Marks.{mark_of, AreMarked};
 ghost use Rattle.cbor_core.specs.declared.tree.Item.{Item};
 
 use crate::heads::{Head, ReadStop, Size, Stop, head_of};
+use crate::limits::{LONGEST_STRING, MOST_PARTS};
 use crate::marks::{has_marked_key, mark};
 use crate::order::below;
 use crate::same::has_key;
@@ -70,10 +71,10 @@ fn fault_of(g: Grammar, room: u8, head: Head, rest: &[u8]) -> Option<Why>
     }
     let string = major == 2 || major == 3;
     let list = major == 4 || major == 5;
-    if string && head.argument > 4_198_400 {
+    if string && head.argument > LONGEST_STRING {
         return Some(Why::TooLong);
     }
-    if list && head.argument > 4096 {
+    if list && head.argument > MOST_PARTS {
         return Some(Why::TooLong);
     }
     if (list || major == 6) && room == 0 {

@@ -39,7 +39,7 @@ pub enum Node {
 /// The pairs of a map under work, that contracts see as the list of them.
 #[derive(Drop)]
 pub struct Pairs {
-    pairs: Vec<(Item, Item)>,
+    pairs: Items<(Item, Item)>,
 }
 
 impl Model for Pairs {
@@ -52,7 +52,7 @@ impl Model for Pairs {
 
     ghost coded = { coded_list (coded× item.the_row.coded item.the_row.coded) };
 
-    ghost view = { λ p. p.pairs.items };
+    ghost view = { λ p. p.pairs };
 }
 
 impl Pairs {
@@ -61,8 +61,15 @@ impl Pairs {
         ensures { result ≡ [] }
     {
         Pairs {
-            pairs: Vec::new(alloc),
+            pairs: Items::new(alloc),
         }
+    }
+
+    /// The parts of a map as pairs, none of them moved.
+    pub fn from_items(items: Items<(Item, Item)>) -> Pairs
+        ensures { result ≡ items }
+    {
+        Pairs { pairs: items }
     }
 
     /// The pairs.
@@ -93,6 +100,6 @@ impl Pairs {
         ensures { result ≡ self }
     {
         let Pairs { pairs } = self;
-        Items::from_vec(pairs)
+        pairs
     }
 }

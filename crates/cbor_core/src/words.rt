@@ -44,7 +44,9 @@ pub struct Fault {
 /// Why a decoder gave no item.
 #[derive(Clone, Copy, Debug, PartialEq, Eq, Drop)]
 pub enum DecodeStop {
+    /// The bytes spell no item: the first fault in reading order. Of a decoder that takes all bytes also that some are left.
     Fault(Fault),
+    /// Memory ran out.
     OutOfMemory,
 }
 
@@ -53,5 +55,6 @@ pub enum DecodeStop {
 pub enum EncodeStop {
     /// No strict bytes spell the item, or more than a buffer can hold.
     NotStrict,
+    /// Memory for the bytes ran out. Strict bytes spell the item.
     OutOfMemory,
 }

@@ -1,7 +1,7 @@
 use super::said::both_said;
 use cbor_core::{
     Bytes, DecodeStop, EncodeStop, Item, Node, Pairs, Text, Why, below, decode_strict, decode_wide,
-    decode_wide_all, encode, encoded_len, same_item,
+    decode_wide_all, encode, encoded_len, has_key, same_item,
 };
 use std::alloc::{AllocError, Global};
 use std::test::Fail;
@@ -147,6 +147,39 @@ fn strings_and_pairs_hold_what_they_are_given(rt: HostRuntime) -> Result<(), Fai
     assert_eq!(rt; encoded_len(&map), Some(9));
     let whole = encode(alloc, &map).ok().ok_or("not encoded")?;
     assert!(rt; whole.as_slice() == want.as_slice());
+    Ok(())
+}
+
+#[test]
+fn a_key_is_found_among_the_pairs_of_a_map(rt: HostRuntime) -> Result<(), Fail> {
+    let alloc = rt.alloc();
+    let bytes = hex::decode(alloc, "a201020304")?;
+    let item = decode_wide_all(alloc, bytes.as_slice())
+        .ok()
+        .ok_or("no item")?;
+    let Item { node } = item;
+    let items = match node {
+        Node::Map(items) => Some(items),
+        _ => None,
+    };
+    let pairs = Pairs::from_items(items.ok_or("no map")?);
+    assert_eq!(rt; pairs.len(), 2);
+    assert!(rt;
+        has_key(
+            pairs.as_slice(),
+            &Item {
+                node: Node::Uint(3)
+            }
+        )
+    );
+    assert!(rt;
+        !has_key(
+            pairs.as_slice(),
+            &Item {
+                node: Node::Uint(4)
+            }
+        )
+    );
     Ok(())
 }
 

@@ -1,26 +1,29 @@
-use Rattle.std.proofs.Common.{◌≡◌, ◌-◌, ℕ, List, [], ◌∷◌, ◌++◌, sym, ap, ◌∙◌, arith}
+use Rattle.std.proofs.Common.{◌≡◌, ◌-◌, ℕ, List, [], ◌∷◌, ◌++◌, Err, sym, ap, ◌∙◌, arith}
 use Rattle.std.proofs.lemmas.List.{map_push}
 use Rattle.cbor_core.specs.declared.tree.Item.{Item}
+use Rattle.cbor_core.specs.declared.heads.ReadStop.TheVariants.{At}
 use Rattle.cbor_core.specs.Marks.{mark_of, marks_of}
-use Rattle.std.proofs.lemmas.Result.{err_from_is_err_and}
 use Rattle.cbor_core.specs.Reading.{read_each, read_pairs, read_in}
-use Rattle.cbor_core.proofs.ReadLoops.{read_in-is, each_goes, each_ends, each_done, pairs_go, pairs_end, pairs_done}
+use Rattle.cbor_core.proofs.ReadLoops.{read_in-is, handed_on, each_goes, each_ends, each_done, pairs_go, pairs_end, pairs_done}
 use Rattle.cbor_core.proofs.KeyLemmas.{rise-on, pair-fits, none-rise, key_stands}
 use Rattle.cbor_core.proofs.reading.+reading.Goals as goal
 
 pub item_of-returns-in_err-head : goal.item_of-returns-in_err-head
 item_of-returns-in_err-head t c =
-    let p = err_from_is_err_and c.from_residual.result c.from_residual.ensures.1 in
-    rw (p.1, p.2, read_in-is c.args.g c.args.room c.args.bytes.now, c.in_err-head.ensures.read)
+    let stop = c.in_err-head.field-0.0 in
+    let stops : read_in c.args.g c.args.room c.args.bytes.now ≡ Err stop = rw (read_in-is c.args.g c.args.room c.args.bytes.now, c.in_err-head.ensures.read) in
+    handed_on (λ x. (x.0, x.1.now)) c.from_residual.result (At stop) (read_in c.args.g c.args.room c.args.bytes.now) c.from_residual.ensures.1 stops
 
 pub item_of-returns : goal.item_of-returns
 item_of-returns t c = rw (read_in-is c.args.g c.args.room c.args.bytes.now, c.in_ok-head.ensures.read) c.body_of.ensures
 
 pub items_of-returns-in_err-item : goal.items_of-returns-in_err-item
 items_of-returns-in_err-item t c =
-    let p = err_from_is_err_and c.from_residual.result c.from_residual.ensures.1 in
     let part = read_in c.args.g c.args.room in
-    rw (p.1, p.2) (each_ends part c.in_err-item.field-0.0 c.args.count c.loop.counter c.loop.items c.loop.rest.now (read_each part c.args.count [] c.args.bytes.now) c.loop-test.true c.in_err-item.ensures c.loop.invariant)
+    let total = read_each part c.args.count [] c.args.bytes.now in
+    let stop = c.in_err-item.field-0.0 in
+    let stops = each_ends part stop c.args.count c.loop.counter c.loop.items c.loop.rest.now total c.loop-test.true c.in_err-item.ensures c.loop.invariant in
+    handed_on (λ x. (x.0, x.1.now)) c.from_residual.result stop total c.from_residual.ensures.1 stops
 
 pub items_of-loop-preserved : goal.items_of-loop-preserved
 items_of-loop-preserved t c =
@@ -29,15 +32,16 @@ items_of-loop-preserved t c =
 
 pub items_of-returns : goal.items_of-returns
 items_of-returns t c =
-    let part = read_in c.args.g c.args.room in
-    each_done part c.args.count c.loop.counter c.loop.items c.loop.rest.now (read_each part c.args.count [] c.args.bytes.now) c.loop-test.false c.loop.invariant
+    each_done (read_in c.args.g c.args.room) _ _ _ _ _ c.loop-test.false c.loop.invariant
 
 pub pairs_of-returns-in_err-pair : goal.pairs_of-returns-in_err-pair
 pairs_of-returns-in_err-pair t c =
-    let p = err_from_is_err_and c.from_residual.result c.from_residual.ensures.1 in
     let part = read_in c.args.g c.args.room in
+    let total = read_pairs c.args.g part c.args.count [] [] c.args.bytes.now in
+    let stop = c.in_err-pair.field-0.0 in
     let fails = rw c.as_slice.ensures at c.in_err-pair.ensures.read in
-    rw (p.1, p.2) (pairs_end c.args.g part c.in_err-pair.field-0.0 c.args.count c.loop.counter c.loop.pairs c.loop.last.now c.loop.rest.now (read_pairs c.args.g part c.args.count [] [] c.args.bytes.now) c.loop-test.true fails c.loop.invariant.read)
+    let stops = pairs_end c.args.g part stop c.args.count c.loop.counter c.loop.pairs c.loop.last.now c.loop.rest.now total c.loop-test.true fails c.loop.invariant.read in
+    handed_on (λ x. (x.0, x.1.now)) c.from_residual.result stop total c.from_residual.ensures.1 stops
 
 pub pair_of-key_fault-requires-clause-stands : goal.pair_of-key_fault-requires-clause-stands
 pair_of-key_fault-requires-clause-stands t c =
@@ -70,5 +74,4 @@ pairs_of-loop-preserved t c =
 
 pub pairs_of-returns : goal.pairs_of-returns
 pairs_of-returns t c =
-    let part = read_in c.args.g c.args.room in
-    pairs_done c.args.g part c.args.count c.loop.counter c.loop.pairs c.loop.last.now c.loop.rest.now (read_pairs c.args.g part c.args.count [] [] c.args.bytes.now) c.loop-test.false c.loop.invariant.read
+    pairs_done c.args.g (read_in c.args.g c.args.room) _ _ _ _ _ _ c.loop-test.false c.loop.invariant.read

@@ -2,8 +2,8 @@ use Rattle.std.proofs.Common.{◌+◌, ◌-◌, ◌<◌, ◌≤◌, ℕ, List, l
 use Rattle.cbor_core.specs.declared.heads.Head.{Head}
 use Rattle.cbor_core.specs.declared.tree.Item.{Item}
 use Rattle.cbor_core.specs.Head.{limit}
-use Rattle.cbor_core.specs.Encoding.{both, head_text, spell_each, spell_in, flat, HasRoomFor, Puts, GoesOn}
-use Rattle.cbor_core.proofs.WriteSteps.{head-whole, room-head, room-bytes, room-items, room-pairs, put-leaf, put-whole, room-first, room-rest, goes-rest, goes-end, items-here, items-over, pairs-here, pairs-over}
+use Rattle.cbor_core.specs.Encoding.{both, head_text, spell_each, spell_in, flat, HasRoomFor, Puts}
+use Rattle.cbor_core.proofs.WriteSteps.{head-whole, room-head, room-bytes, room-items, room-pairs, put-leaf, put-whole, room-first, room-rest, goes-rest, goes-end, items-here, items-over, pairs-here, pairs-over, GoesOn}
 use Rattle.cbor_core.proofs.writing.+writing.Goals as goal
 
 pub put_item-put_head-at-requires-clause-argument : goal.put_item-put_head-at-requires-clause-argument

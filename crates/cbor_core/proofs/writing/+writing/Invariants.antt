@@ -1,5 +1,6 @@
 use Rattle.std.proofs.Common.{◌+◌, ◌*◌, length, drop}
-use Rattle.cbor_core.specs.Encoding.{HasRoomFor, GoesOn, spell_each, spell_in, flat}
+use Rattle.cbor_core.specs.Encoding.{HasRoomFor, spell_each, spell_in, flat}
+use Rattle.cbor_core.proofs.WriteSteps.{GoesOn}
 use Rattle.cbor_core.proofs.writing.+writing.Given as goal
 
 abbrev pub decreases-put_item : goal.decreases-put_item
