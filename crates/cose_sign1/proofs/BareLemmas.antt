@@ -1,5 +1,5 @@
 -- A message keeps its shape and its headers stay fine when its unprotected header is dropped.
-use Rattle.std.proofs.Common.{◌≡◌, ℕ, Bool, true, false, not, ◌||◌, if◌then◌else◌, List, [], ◌∷◌, Option, Some, None, refl, sym, ap, subst, ◌∙◌}
+use Rattle.std.proofs.Common.{◌≡◌, ℕ, Bool, true, false, not, if◌then◌else◌, List, [], Option, Some, None, refl, sym, ap, subst, ◌∙◌}
 use Rattle.std.proofs.lemmas.Bool.{or_parts}
 use Rattle.cbor_core.specs.declared.words.Grammar.TheVariants.{Wide}
 use Rattle.cbor_core.specs.declared.tree.Item.{Item}
@@ -12,7 +12,7 @@ use Rattle.cose_sign1.specs.declared.stops.Sign1Stop.TheVariants.{BadCrit}
 use Rattle.cose_sign1.specs.Labels.{value_at, has_number}
 use Rattle.cose_sign1.specs.Parts.{parts_in}
 use Rattle.cose_sign1.specs.Headers.{or_then, first_fault, protected_fault, unprotected_fault, crit_fine, bad_crit, crit_fault, header_fault}
-use Rattle.cose_sign1.specs.Sign1Of.{HasParts, HasEntries, message_of, Sign1Of}
+use Rattle.cose_sign1.specs.Sign1Of.{HasEntries, message_of, Sign1Of}
 use Rattle.cose_sign1.specs.Message.{array_item, message_parts, bare_item, bare_of, BareIsMessage}
 
 or_none : (a b : Option Sign1Stop) → or_then a b ≡ None → (a ≡ None) × (b ≡ None)

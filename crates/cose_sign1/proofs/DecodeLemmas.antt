@@ -1,5 +1,5 @@
 -- From what the steps of decoding answer to the message or the first step that fails.
-use Rattle.std.proofs.Common.{◌≡◌, ℕ, Bool, true, false, not, ◌||◌, if◌then◌else◌, List, [], ◌∷◌, Option, Some, None, Ok, Err, refl, subst, inr}
+use Rattle.std.proofs.Common.{◌≡◌, ℕ, Bool, true, false, not, ◌||◌, if◌then◌else◌, List, [], ◌∷◌, Option, Some, None, Err, subst, inr}
 use Rattle.std.specs.Option.{option_map}
 use Rattle.cbor_core.specs.declared.tree.Item.{Item}
 use Rattle.cbor_core.specs.Tree.{is_key}
@@ -10,7 +10,7 @@ use Rattle.cose_sign1.specs.declared.stops.Sign1Stop.TheVariants.{Cbor, Protecte
 use Rattle.cose_sign1.specs.Labels.{key_label, key_is}
 use Rattle.cose_sign1.specs.Kinds.{has_kind}
 use Rattle.cose_sign1.specs.Headers.{or_then, first_fault, named, bad_header, dup_label, protected_fault, unprotected_fault, bad_crit, crit_fault, header_fault, Stops}
-use Rattle.cose_sign1.specs.Sign1Of.{HasParts, HasEntries, ReadsEntries, Answered}
+use Rattle.cose_sign1.specs.Sign1Of.{HasParts, HasEntries, ReadsEntries, Sign1Fault, Answered}
 
 -- a fault of the headers names a label, or is that of crit
 abbrev OfHeaders : Option Sign1Stop → Type 0
@@ -69,11 +69,21 @@ module _ (bytes : List ℕ) (parts : Parts) (has : HasParts bytes parts) where
   entries_fail BadCrit h = absurd h
   entries_fail OutOfMemory h = tt
 
+  -- a fault of the headers is the first step that fails
+  pub headers_fault : (entries : List (Item × Item)) (stop : Sign1Stop) → HasEntries parts.protected entries → header_fault entries parts.unprotected ≡ Some stop → Sign1Fault bytes stop
+  headers_fault entries (Cbor fault) e h = absurd (subst OfHeaders h (of_headers entries parts.unprotected))
+  headers_fault entries (Protected fault) e h = absurd (subst OfHeaders h (of_headers entries parts.unprotected))
+  headers_fault entries NotSign1 e h = absurd (subst OfHeaders h (of_headers entries parts.unprotected))
+  headers_fault entries (BadHeader label) e h = (parts, entries, has, e, h)
+  headers_fault entries (DupLabel label) e h = (parts, entries, has, e, h)
+  headers_fault entries BadCrit e h = (parts, entries, has, e, h)
+  headers_fault entries OutOfMemory e h = absurd (subst OfHeaders h (of_headers entries parts.unprotected))
+
   pub headers_fail : (entries : List (Item × Item)) (stop : Sign1Stop) → HasEntries parts.protected entries → Stops stop (header_fault entries parts.unprotected) → Answered bytes (Err stop)
-  headers_fail entries (Cbor fault) e h = absurd (subst (λ (o : Option Sign1Stop). OfHeaders o) h (of_headers entries parts.unprotected))
-  headers_fail entries (Protected fault) e h = absurd (subst (λ (o : Option Sign1Stop). OfHeaders o) h (of_headers entries parts.unprotected))
-  headers_fail entries NotSign1 e h = absurd (subst (λ (o : Option Sign1Stop). OfHeaders o) h (of_headers entries parts.unprotected))
-  headers_fail entries (BadHeader label) e h = (parts, entries, has, e, h)
-  headers_fail entries (DupLabel label) e h = (parts, entries, has, e, h)
-  headers_fail entries BadCrit e h = (parts, entries, has, e, h)
+  headers_fail entries (Cbor fault) e h = headers_fault entries (Cbor fault) e h
+  headers_fail entries (Protected fault) e h = headers_fault entries (Protected fault) e h
+  headers_fail entries NotSign1 e h = headers_fault entries NotSign1 e h
+  headers_fail entries (BadHeader label) e h = headers_fault entries (BadHeader label) e h
+  headers_fail entries (DupLabel label) e h = headers_fault entries (DupLabel label) e h
+  headers_fail entries BadCrit e h = headers_fault entries BadCrit e h
   headers_fail entries OutOfMemory e h = tt

@@ -5,3 +5,6 @@ pub mod StringLemmas
 pub mod TbsLemmas
 pub mod MessageLemmas
 pub mod BareLemmas
+pub mod InnerLemmas
+pub mod AnswerLemmas
+pub mod TagLemmas

@@ -1,5 +1,5 @@
 -- What is written for a message with an empty unprotected map is its strict spelling.
-use Rattle.std.proofs.Common.{◌≡◌, ℕ, ◌+◌, ◌<◌, ◌≤◌, List, [], ◌∷◌, ◌++◌, length, Some, refl, sym, subst, arith, length-append}
+use Rattle.std.proofs.Common.{◌≡◌, ℕ, ◌<◌, ◌≤◌, List, [], ◌∷◌, ◌++◌, length, Some, refl, sym, subst, arith, length-append}
 use Rattle.std.proofs.lemmas.List.{append-nil}
 use Rattle.cbor_core.specs.declared.words.Grammar.{Grammar}
 use Rattle.cbor_core.specs.declared.words.Grammar.TheVariants.{Strict, Wide}
@@ -9,7 +9,8 @@ use Rattle.cbor_core.specs.declared.tree.Node.TheVariants.{Map, outs-Array, outs
 use Rattle.cbor_core.specs.Tree.{Layer}
 use Rattle.cbor_core.specs.Head.{MayStand}
 use Rattle.cbor_core.specs.Spells.{SpellsLayer, SpellsIn, SpellEach, SpellPairs, Spells}
-use Rattle.cose_sign1.specs.Strings.{string_text, string_len}
+use Rattle.cbor_core.specs.Limits.{longest_string}
+use Rattle.cose_sign1.specs.Strings.{string_text}
 use Rattle.cose_sign1.specs.Tbs.{byte_item}
 use Rattle.cose_sign1.specs.Message.{array_item, message_parts, bare_item, bare_len, bare_text}
 use Rattle.cose_sign1.proofs.StringLemmas.{string_spelled, length_string}
@@ -21,7 +22,7 @@ within : (g : Grammar) (n : ℕ) → n < 24 → MayStand g Within n
 within Strict n lt = (omega arith, lt)
 within Wide n lt = lt
 
-inner_spelled : (g : Grammar) (bytes : List ℕ) → length bytes ≤ 4198400 → SpellsIn g 14 (byte_item bytes) (string_text bytes)
+inner_spelled : (g : Grammar) (bytes : List ℕ) → length bytes ≤ longest_string → SpellsIn g 14 (byte_item bytes) (string_text bytes)
 unfolding SpellsIn
 inner_spelled g bytes fits = string_spelled g 14 (SpellsIn g 13) bytes fits
 
@@ -31,7 +32,7 @@ map_spelled g =
     subst (λ (l : Layer). SpellsLayer g 14 (SpellsIn g 13) l (160 ∷ [])) (sym (outs-Map []))
     (omega arith, omega arith, (160 ∷ [], [], (Within, within g 0 (omega arith), refl), refl, refl))
 
-array_spelled : (g : Grammar) (p c s : List ℕ) → length p ≤ 4198400 → length c ≤ 4198400 → length s ≤ 4198400
+array_spelled : (g : Grammar) (p c s : List ℕ) → length p ≤ longest_string → length c ≤ longest_string → length s ≤ longest_string
     → SpellsIn g 15 (array_item (message_parts p no_entries (Some c) s)) (132 ∷ (string_text p ++ (160 ∷ (string_text c ++ string_text s))))
 unfolding SpellsIn SpellEach
 array_spelled g p c s pf cf sf =
@@ -51,7 +52,7 @@ array_spelled g p c s pf cf sf =
       ),
     )
 
-pub bare_spelled : (g : Grammar) (p c s : List ℕ) → length p ≤ 4198400 → length c ≤ 4198400 → length s ≤ 4198400 → Spells g (bare_item p c s) (bare_text p c s)
+pub bare_spelled : (g : Grammar) (p c s : List ℕ) → length p ≤ longest_string → length c ≤ longest_string → length s ≤ longest_string → Spells g (bare_item p c s) (bare_text p c s)
 unfolding Spells SpellsIn bare_text
 bare_spelled g p c s pf cf sf =
     let whole = 132 ∷ (string_text p ++ (160 ∷ (string_text c ++ string_text s))) in

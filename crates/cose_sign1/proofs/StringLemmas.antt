@@ -1,5 +1,5 @@
 -- Byte strings in their shortest spelling, and texts written one behind the other.
-use Rattle.std.proofs.Common.{◌≡◌, ℕ, ◌+◌, ◌^◌, ◌<◌, ◌≤◌, Bool, true, false, nat_lt, if◌then◌else◌, List, [], ◌∷◌, ◌++◌, length, take, refl, sym, ap, subst, ◌∙◌, arith, length-append, append_assoc}
+use Rattle.std.proofs.Common.{◌≡◌, ℕ, ◌^◌, ◌<◌, ◌≤◌, Bool, true, false, nat_lt, if◌then◌else◌, List, ◌++◌, length, take, refl, sym, ap, subst, ◌∙◌, arith, length-append, append_assoc}
 use Rattle.std.proofs.lemmas.Bool.{ltb-true, ltb-false}
 use Rattle.std.proofs.Math.Seq.{take-length}
 use Rattle.cbor_core.specs.declared.words.Grammar.{Grammar}
@@ -12,6 +12,7 @@ use Rattle.cbor_core.specs.declared.tree.Node.TheVariants.{outs-Bytes}
 use Rattle.cbor_core.specs.Tree.{Layer}
 use Rattle.cbor_core.specs.Head.{head, MayStand}
 use Rattle.cbor_core.specs.Spells.{SpellsLayer}
+use Rattle.cbor_core.specs.Limits.{longest_string}
 use Rattle.cose_sign1.specs.Strings.{shortest, head_len, string_head, string_text, string_len, Writes}
 use Rattle.cose_sign1.specs.Tbs.{byte_item}
 
@@ -40,7 +41,7 @@ stands_in : (g : Grammar) (n : ℕ) → n < 2 ^ 64 → MayStand g (shortest n) n
 stands_in Strict n fits = shortest_stands n fits
 stands_in Wide n fits = (shortest_stands n fits).1
 
-pub string_spelled : (g : Grammar) (room : ℕ) (Part : Item → List ℕ → Type 0) (bytes : List ℕ) → length bytes ≤ 4198400 → SpellsLayer g room Part (out-Node (byte_item bytes).node) (string_text bytes)
+pub string_spelled : (g : Grammar) (room : ℕ) (Part : Item → List ℕ → Type 0) (bytes : List ℕ) → length bytes ≤ longest_string → SpellsLayer g room Part (out-Node (byte_item bytes).node) (string_text bytes)
 unfolding string_head
 string_spelled g room Part bytes fits =
     let n = length bytes in

@@ -1,5 +1,5 @@
 -- What is written is the Sig_structure, and the strings that spell an empty map are the five that are tried.
-use Rattle.std.proofs.Common.{◌≡◌, ℕ, ◌+◌, ◌<◌, ◌≤◌, ◌⊎◌, Bool, true, false, ◌&&◌, ◌||◌, nat_lt, if◌then◌else◌, List, [], ◌∷◌, ◌++◌, length, refl, sym, ap, subst, ◌∙◌, inl, inr, arith, length-append}
+use Rattle.std.proofs.Common.{◌≡◌, ℕ, ◌+◌, ◌≤◌, Bool, true, false, ◌&&◌, ◌||◌, nat_lt, if◌then◌else◌, List, [], ◌∷◌, ◌++◌, length, refl, sym, ap, subst, ◌∙◌, inl, inr, arith, length-append}
 use Rattle.std.proofs.lemmas.List.{append-nil}
 use Rattle.std.proofs.lemmas.Bool.{and_parts, ltb-true, or_cases}
 use Rattle.std.proofs.lemmas.Str.{IsUtf8-from_ascii}
@@ -10,16 +10,16 @@ use Rattle.cbor_core.specs.declared.words.Grammar.TheVariants.{Strict, Wide}
 use Rattle.cbor_core.specs.declared.heads.Size.{Size}
 use Rattle.cbor_core.specs.declared.heads.Size.TheVariants.{Within, One, Two, Four, Eight}
 use Rattle.cbor_core.specs.declared.tree.Item.{Item}
-use Rattle.cbor_core.specs.declared.tree.Node.{out-Node}
 use Rattle.cbor_core.specs.declared.tree.Node.TheVariants.{Text, Map, outs-Text, outs-Array, outs-Map}
 use Rattle.cbor_core.specs.Tree.{Layer}
 use Rattle.cbor_core.specs.Head.{head, MayStand}
 use Rattle.cbor_core.specs.Spells.{SpellsLayer, SpellsIn, SpellEach, SpellPairs, Spells}
+use Rattle.cbor_core.specs.Limits.{longest_string}
 use Rattle.cose_sign1.specs.Strings.{string_head, string_text, string_len}
-use Rattle.cose_sign1.specs.Tbs.{byte_item, signature1, sig_structure, IsNoMap, IsSigned, Tbs, no_map, signed_of, tbs_front, tbs_len, tbs_text}
+use Rattle.cose_sign1.specs.Tbs.{byte_item, signature1, sig_structure, IsNoMap, IsSigned, Tbs, no_map, signed_of, tbs_text}
 use Rattle.cose_sign1.proofs.StringLemmas.{string_spelled, length_string}
 
-part_spelled : (bytes : List ℕ) → length bytes ≤ 4198400 → SpellsIn Strict 15 (byte_item bytes) (string_text bytes)
+part_spelled : (bytes : List ℕ) → length bytes ≤ longest_string → SpellsIn Strict 15 (byte_item bytes) (string_text bytes)
 unfolding SpellsIn
 part_spelled bytes fits = string_spelled Strict 15 (SpellsIn Strict 14) bytes fits
 
@@ -39,7 +39,7 @@ context_spelled =
     subst (λ (l : Layer). SpellsLayer Strict 15 (SpellsIn Strict 14) l (106 ∷ signature1)) (sym (outs-Text signature1))
     (omega arith, IsUtf8-from_ascii signature1 (ascii_by signature1 refl), (106 ∷ [], signature1, (Within, (omega arith, omega arith), refl), refl, refl))
 
-pub structure_spelled : (signed payload : List ℕ) → length signed ≤ 4198400 → length payload ≤ 4198400 → Spells Strict (sig_structure signed payload) (tbs_text signed payload)
+pub structure_spelled : (signed payload : List ℕ) → length signed ≤ longest_string → length payload ≤ longest_string → Spells Strict (sig_structure signed payload) (tbs_text signed payload)
 unfolding Spells SpellsIn SpellEach tbs_text string_head
 structure_spelled signed payload s p =
     let items : List Item = record { node = Text signature1 } ∷ byte_item signed ∷ byte_item [] ∷ byte_item payload ∷ [] in
@@ -118,11 +118,11 @@ pub signed_is : (protected : List ℕ) → IsSigned protected (signed_of protect
 unfolding signed_of
 signed_is protected = signed_by protected (no_map protected) refl
 
-signed_small : (protected : List ℕ) (b : Bool) → length protected ≤ 4198400 → length (if b then [] else protected) ≤ 4198400
+signed_small : (protected : List ℕ) (b : Bool) → length protected ≤ longest_string → length (if b then [] else protected) ≤ longest_string
 signed_small protected true h = omega arith
 signed_small protected false h = h
 
-pub signed_fits : (protected : List ℕ) → length protected ≤ 4198400 → length (signed_of protected) ≤ 4198400
+pub signed_fits : (protected : List ℕ) → length protected ≤ longest_string → length (signed_of protected) ≤ longest_string
 unfolding signed_of
 signed_fits protected h = signed_small protected (no_map protected) h
 
@@ -131,6 +131,6 @@ unfolding tbs_text
 tbs_length signed payload =
     omega (arith, length-append (string_text signed) (64 ∷ string_text payload), length_string signed, length_string payload)
 
-pub tbs_is : (protected payload : List ℕ) → length protected ≤ 4198400 → length payload ≤ 4198400 → Tbs protected payload (tbs_text (signed_of protected) payload)
+pub tbs_is : (protected payload : List ℕ) → length protected ≤ longest_string → length payload ≤ longest_string → Tbs protected payload (tbs_text (signed_of protected) payload)
 tbs_is protected payload p q =
     (signed_of protected, signed_is protected, structure_spelled (signed_of protected) payload (signed_fits protected p) q)

@@ -1,5 +1,5 @@
 -- A loop over entries against the first fault among them: at a fault, at a step, and at the end.
-use Rattle.std.proofs.Common.{◌≡◌, ℕ, ◌+◌, ◌<◌, ◌≤◌, List, [], ◌∷◌, length, drop, get_or, Option, Some, None, refl, sym, ap, ◌∙◌}
+use Rattle.std.proofs.Common.{◌≡◌, ℕ, ◌+◌, ◌<◌, ◌≤◌, List, length, drop, get_or, Option, Some, None, sym, ap, ◌∙◌}
 use Rattle.std.proofs.lemmas.List.{at_drop_more, at_drop_all}
 use Rattle.cbor_core.specs.declared.tree.Item.{Item}
 use Rattle.cose_sign1.specs.declared.stops.Sign1Stop.{Sign1Stop}

@@ -5,7 +5,7 @@ use Rattle.cbor_core.specs.declared.tree.Item.{Item}
 use Rattle.cbor_core.specs.declared.tree.Node.{Node-F, out-Node}
 use Rattle.cbor_core.specs.Tree.{Layer, is_key}
 use Rattle.cose_sign1.specs.declared.stops.Sign1Stop.{Sign1Stop}
-use Rattle.cose_sign1.specs.declared.stops.Sign1Stop.TheVariants.{Cbor, Protected, NotSign1, BadHeader, DupLabel, BadCrit, OutOfMemory}
+use Rattle.cose_sign1.specs.declared.stops.Sign1Stop.TheVariants.{BadHeader, DupLabel, BadCrit, OutOfMemory}
 use Rattle.cose_sign1.specs.Labels.{key_label, key_is, value_at, has_number}
 use Rattle.cose_sign1.specs.Kinds.{has_kind}
 

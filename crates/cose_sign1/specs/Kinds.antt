@@ -1,5 +1,5 @@
 -- The kind of value that a label wants (RFC 9052, 3.1; RFC 9597, 2; the profile for 394).
-use Rattle.std.specs.Prelude.{ℕ, ◌≤◌, Bool, true, false, ◌&&◌, ◌||◌, ◌==◌, List, [], ◌∷◌, length, nat_lt, nat_le, if◌then◌else◌}
+use Rattle.std.specs.Prelude.{ℕ, Bool, true, false, ◌&&◌, ◌==◌, List, [], ◌∷◌, length, nat_lt, nat_le, if◌then◌else◌}
 use Rattle.cbor_core.specs.declared.tree.Item.{Item}
 use Rattle.cbor_core.specs.declared.tree.Node.{Node-F, out-Node}
 use Rattle.cbor_core.specs.Tree.{Layer}

@@ -3,6 +3,7 @@ pub mod Kinds
 pub mod Parts
 pub mod Headers
 pub mod Sign1Of
+pub mod OneAnswer
 pub mod Strings
 pub mod Tbs
 pub mod Message

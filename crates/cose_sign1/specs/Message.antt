@@ -1,5 +1,6 @@
 -- The item of a message (RFC 9052, 4.2), tagged, and what an encoder answers.
 use Rattle.std.specs.Prelude.{◌≡◌, ℕ, ◌+◌, ◌≤◌, true, List, [], ◌∷◌, ◌++◌, length, Option, Some, None, Result, Ok, Err}
+use Rattle.cbor_core.specs.declared.words.Grammar.{Grammar}
 use Rattle.cbor_core.specs.declared.words.Grammar.TheVariants.{Strict, Wide}
 use Rattle.cbor_core.specs.declared.words.EncodeStop.{EncodeStop}
 use Rattle.cbor_core.specs.declared.words.EncodeStop.TheVariants.{NotStrict, OutOfMemory}
@@ -7,6 +8,7 @@ use Rattle.cbor_core.specs.declared.tree.Item.{Item}
 use Rattle.cbor_core.specs.declared.tree.Node.TheVariants.{Array, Map, Tag, Simple}
 use Rattle.cbor_core.specs.Spells.{Spells}
 use Rattle.cbor_core.specs.Encoding.{HasLength}
+use Rattle.cbor_core.specs.Limits.{longest_string}
 use Rattle.cose_sign1.specs.declared.sign1.Sign1.{Sign1}
 use Rattle.cose_sign1.specs.Sign1Of.{headers_with, Sign1Of}
 use Rattle.cose_sign1.specs.Strings.{string_len, string_text}
@@ -64,3 +66,8 @@ bare_of v = record {
 -- bytes that spell a message without its unprotected header are that message
 abbrev pub BareIsMessage : Type 0
 BareIsMessage = (bytes logged payload : List ℕ) (v : Sign1) → Sign1Of bytes v → v.payload ≡ Some payload → Spells Wide (bare_item v.protected payload v.signature) logged → Sign1Of logged (bare_of v)
+
+-- the spelling of a message whose unprotected map is empty, in either grammar, and how many bytes it has
+abbrev pub BareIsSpelled : Type 0
+BareIsSpelled = (g : Grammar) (protected payload signature : List ℕ) → length protected ≤ longest_string → length payload ≤ longest_string → length signature ≤ longest_string
+    → Spells g (bare_item protected payload signature) (bare_text protected payload signature) × (length (bare_text protected payload signature) ≡ bare_len protected payload signature)

@@ -1,5 +1,5 @@
 -- The shape of a COSE_Sign1 (RFC 9052, 4.2), tagged by 18 or not, and what its protected string holds (RFC 9052, 3).
-use Rattle.std.specs.Prelude.{◌≡◌, ℕ, Bool, true, false, ◌==◌, List, [], ◌∷◌, Option, Some, None, option_and_then, if◌then◌else◌}
+use Rattle.std.specs.Prelude.{ℕ, Bool, true, false, ◌==◌, List, [], ◌∷◌, Option, Some, None, if◌then◌else◌}
 use Rattle.cbor_core.specs.declared.tree.Item.{Item}
 use Rattle.cbor_core.specs.declared.tree.Node.{Node-F, out-Node}
 use Rattle.cbor_core.specs.Tree.{Layer}

@@ -1,11 +1,10 @@
 -- The COSE_Sign1 that bytes are, or the first step that fails (RFC 9052, 3, 3.1 and 4.2).
-use Rattle.std.specs.Prelude.{◌≡◌, ℕ, ◌⊎◌, List, [], ◌∷◌, Option, Some, None, Result, Ok, Err}
+use Rattle.std.specs.Prelude.{◌≡◌, ℕ, ◌/◌, ◌==◌, ◌⊎◌, Bool, slice_index, List, [], Some, None, Result, Ok, Err}
 use Rattle.cbor_core.specs.declared.words.Grammar.TheVariants.{Wide}
 use Rattle.cbor_core.specs.declared.words.Fault.{Fault}
 use Rattle.cbor_core.specs.declared.tree.Item.{Item}
 use Rattle.cbor_core.specs.Spells.{Spells}
-use Rattle.cbor_core.specs.Faults.{FaultIn}
-use Rattle.cbor_core.specs.Decoding.{Trails}
+use Rattle.cbor_core.specs.Decoding.{WholeFault}
 use Rattle.cose_sign1.specs.declared.parts.Parts.{Parts}
 use Rattle.cose_sign1.specs.declared.sign1.Sign1.{Sign1}
 use Rattle.cose_sign1.specs.declared.sign1.Headers.{Headers}
@@ -16,7 +15,7 @@ use Rattle.cose_sign1.specs.Headers.{header_fault}
 
 -- the bytes aren't one wide item: their first fault, or bytes that follow an item
 abbrev pub CborFault : List ℕ → Fault → Type 0
-CborFault bytes fault = FaultIn Wide 0 bytes fault.at fault.why ⊎ Trails Wide bytes fault
+CborFault bytes fault = WholeFault Wide bytes fault
 
 -- the bytes are an item of the shape, with these parts
 abbrev pub HasParts : List ℕ → Parts → Type 0
@@ -94,3 +93,11 @@ ReadsEntries string (Err (Protected fault)) = EntriesFault string fault
 ReadsEntries string (Err NotSign1) = HasNoEntries string
 ReadsEntries string (Err OutOfMemory) = Unit {0}
 ReadsEntries string (Err _) = ⊥
+
+-- the first byte is the head of a tag, major type 6 (RFC 8949, 3.4)
+abbrev pub begins_tagged : List ℕ → Bool
+begins_tagged bytes = slice_index bytes 0 / 32 == 6
+
+-- a message is tagged exactly where its first byte says so
+abbrev pub TagStandsFirst : Type 0
+TagStandsFirst = (bytes : List ℕ) (v : Sign1) → Sign1Of bytes v → v.tagged ≡ begins_tagged bytes

@@ -1,5 +1,5 @@
 -- The strict spelling of a byte string (RFC 8949, 3.1 and 4.2.1), and what a writer leaves in a buffer.
-use Rattle.std.specs.Prelude.{◌≡◌, ℕ, ◌+◌, ◌^◌, List, [], ◌∷◌, ◌++◌, length, take, nat_lt, if◌then◌else◌}
+use Rattle.std.specs.Prelude.{◌≡◌, ℕ, ◌+◌, ◌^◌, List, ◌++◌, length, take, nat_lt, if◌then◌else◌}
 use Rattle.cbor_core.specs.declared.heads.Size.{Size}
 use Rattle.cbor_core.specs.declared.heads.Size.TheVariants.{Within, One, Two, Four, Eight}
 use Rattle.cbor_core.specs.Head.{head}

@@ -2,6 +2,7 @@ ghost use Rattle.std.specs.Prelude.{◌≡◌, ℕ, ◌≤◌, length, IfOk};
 ghost use Rattle.std.specs.Option.{option_copied};
 ghost use Rattle.cbor_core.specs.declared.words.Grammar.TheVariants.{Strict, Wide};
 ghost use Rattle.cbor_core.specs.Spells.{Spells};
+ghost use Rattle.cbor_core.specs.Limits.{longest_string};
 ghost use Rattle.cose_sign1.specs.Tbs.{byte_item};
 ghost use Rattle.cose_sign1.specs.Message.{payload_item, message_parts, tagged_item, message_item, Encodes, bare_item, bare_len as len_of_bare, bare_text};
 
@@ -97,9 +98,9 @@ pub fn encode(
 
 /// How many bytes the tagged strict form of a message with an empty unprotected map has. It takes no memory.
 pub fn bare_len(protected: &[u8], payload: &[u8], signature: &[u8]) -> usize
-    requires protected_fits { length protected.now ≤ 4198400 }
-    requires payload_fits { length payload.now ≤ 4198400 }
-    requires signature_fits { length signature.now ≤ 4198400 }
+    requires protected_fits { length protected.now ≤ longest_string }
+    requires payload_fits { length payload.now ≤ longest_string }
+    requires signature_fits { length signature.now ≤ longest_string }
     ensures { result ≡ len_of_bare protected.now payload.now signature.now }
 {
     let strings = head_len(protected.len())
@@ -110,9 +111,9 @@ pub fn bare_len(protected: &[u8], payload: &[u8], signature: &[u8]) -> usize
 }
 
 fn write_bare(protected: &[u8], payload: &[u8], signature: &[u8], buf: &mut [u8])
-    requires protected_fits { length protected.now ≤ 4198400 }
-    requires payload_fits { length payload.now ≤ 4198400 }
-    requires signature_fits { length signature.now ≤ 4198400 }
+    requires protected_fits { length protected.now ≤ longest_string }
+    requires payload_fits { length payload.now ≤ longest_string }
+    requires signature_fits { length signature.now ≤ longest_string }
     requires room { length buf.old ≡ len_of_bare protected.now payload.now signature.now }
     ensures { buf.new ≡ bare_text protected.now payload.now signature.now }
 {
@@ -126,9 +127,9 @@ fn write_bare(protected: &[u8], payload: &[u8], signature: &[u8], buf: &mut [u8]
 /// Writes the tagged strict form of a message with an empty unprotected map. The buffer has `bare_len` bytes. It takes no
 /// memory. The bytes are spelled so in the wide grammar too.
 pub fn bare_into(protected: &[u8], payload: &[u8], signature: &[u8], buf: &mut [u8])
-    requires protected_fits { length protected.now ≤ 4198400 }
-    requires payload_fits { length payload.now ≤ 4198400 }
-    requires signature_fits { length signature.now ≤ 4198400 }
+    requires protected_fits { length protected.now ≤ longest_string }
+    requires payload_fits { length payload.now ≤ longest_string }
+    requires signature_fits { length signature.now ≤ longest_string }
     requires room { length buf.old ≡ len_of_bare protected.now payload.now signature.now }
     ensures strict { Spells Strict (bare_item protected.now payload.now signature.now) buf.new }
     ensures wide { Spells Wide (bare_item protected.now payload.now signature.now) buf.new }

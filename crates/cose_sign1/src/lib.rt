@@ -10,7 +10,6 @@ mod kinds;
 mod labels;
 mod laws;
 mod marks;
-mod pairs;
 mod parts;
 mod sign1;
 mod stops;
@@ -19,7 +18,7 @@ mod tbs;
 
 pub use encoding::{bare_into, bare_len, encode};
 pub use labels::{Label, find, label_of};
-pub use laws::bare_message_is_one;
+pub use laws::{bare_message_is_one, messages_have_one_answer, tag_stands_first};
 pub use sign1::{Headers, Sign1, decode};
 pub use stops::Sign1Stop;
 pub use tbs::{to_be_signed_into, to_be_signed_len};

@@ -2,7 +2,7 @@ ghost use Rattle.std.specs.Prelude.{◌≡◌, ◌↔◌, IsTrue, IfOk};
 ghost use Rattle.cbor_core.specs.Tree.{is_key};
 ghost use Rattle.cose_sign1.specs.Marks.{mark_of as digest_of_label, marks_of as digests_of_labels};
 
-use cbor_core::{Item, Node, same_item};
+use cbor_core::{Item, Node, keys_are_compared_as_items, same_item};
 use sha2::{Digest, Sha256};
 use std::alloc::{AllocError, Global};
 
@@ -55,6 +55,7 @@ pub fn has_marked_key(
     requires ours { mark.now ≡ digest_of_label key.now }
     ensures { result ≡ is_key pairs.now key.now }
 {
+    keys_are_compared_as_items();
     for i in 0..pairs.len() {
         if is_same_key(&pairs[i], &marks[i], key, mark) {
             return true;

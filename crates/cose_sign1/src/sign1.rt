@@ -1,14 +1,13 @@
-ghost use Rattle.std.specs.Prelude.{◌≡◌, IfOk};
-ghost use Rattle.cose_sign1.specs.Sign1Of.{Answered, ReadsParts, headers_with, message_of};
+ghost use Rattle.std.specs.Prelude.{◌≡◌};
+ghost use Rattle.cose_sign1.specs.Sign1Of.{Answered, ReadsParts, message_of};
 
 use crate::entries::protected_entries;
 use crate::headers::check_headers;
-use crate::pairs::pairs_of;
 use crate::parts::{Parts, parts_of};
 use crate::stops::Sign1Stop;
 use cbor_core::{Bytes, DecodeStop, Item, Pairs, decode_wide_all};
 use sqlite_items::Items;
-use std::alloc::{AllocError, Global};
+use std::alloc::Global;
 
 /// The header parameters of a message (RFC 9052, 3), each map's entries in their order.
 #[derive(Drop)]
@@ -43,23 +42,8 @@ fn read_parts(alloc: Global, bytes: &[u8]) -> Result<Parts, Sign1Stop>
     }
 }
 
-fn headers_of(
-    alloc: Global,
-    protected: Items<(Item, Item)>,
-    unprotected: Items<(Item, Item)>,
-) -> Result<Headers, AllocError>
-    ensures { IfOk result (λ h. h ≡ headers_with protected unprotected) }
-{
-    let protected = pairs_of(alloc, protected)?;
-    let unprotected = pairs_of(alloc, unprotected)?;
-    Ok(Headers {
-        protected,
-        unprotected,
-    })
-}
-
-fn message(alloc: Global, parts: Parts, entries: Items<(Item, Item)>) -> Result<Sign1, AllocError>
-    ensures { IfOk result (λ v. v ≡ message_of parts entries) }
+fn message(parts: Parts, entries: Items<(Item, Item)>) -> Sign1
+    ensures { result ≡ message_of parts entries }
 {
     let Parts {
         tagged,
@@ -68,14 +52,17 @@ fn message(alloc: Global, parts: Parts, entries: Items<(Item, Item)>) -> Result<
         payload,
         signature,
     } = parts;
-    let headers = headers_of(alloc, entries, unprotected)?;
-    Ok(Sign1 {
+    let headers = Headers {
+        protected: Pairs::from_items(entries),
+        unprotected: Pairs::from_items(unprotected),
+    };
+    Sign1 {
         tagged,
         protected,
         headers,
         payload,
         signature,
-    })
+    }
 }
 
 /// Reads bytes as one message in the wide grammar, leaving none over.
@@ -94,8 +81,5 @@ pub fn decode(alloc: Global, bytes: &[u8]) -> Result<Sign1, Sign1Stop>
     let parts = read_parts(alloc, bytes)?;
     let entries = protected_entries(alloc, parts.protected.as_slice())?;
     check_headers(alloc, entries.as_slice(), parts.unprotected.as_slice())?;
-    match message(alloc, parts, entries) {
-        Ok(message) => Ok(message),
-        Err(_) => Err(Sign1Stop::OutOfMemory),
-    }
+    Ok(message(parts, entries))
 }

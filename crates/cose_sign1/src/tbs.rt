@@ -1,4 +1,5 @@
 ghost use Rattle.std.specs.Prelude.{◌≡◌, ℕ, ◌≤◌, length};
+ghost use Rattle.cbor_core.specs.Limits.{longest_string};
 ghost use Rattle.cose_sign1.specs.Tbs.{no_map, signed_of as signed_string, tbs_front, tbs_len, tbs_text, Tbs, HasTbsLength};
 
 use crate::strings::{head_len, put, put_string};
@@ -31,8 +32,8 @@ fn signed_of(protected: &[u8]) -> &[u8]
 
 /// How many bytes the Sig_structure of a protected string and a payload has (RFC 9052, 4.4). It takes no memory.
 pub fn to_be_signed_len(protected: &[u8], payload: &[u8]) -> usize
-    requires protected_fits { length protected.now ≤ 4198400 }
-    requires payload_fits { length payload.now ≤ 4198400 }
+    requires protected_fits { length protected.now ≤ longest_string }
+    requires payload_fits { length payload.now ≤ longest_string }
     ensures value { result ≡ tbs_len protected.now payload.now }
     ensures exact { HasTbsLength protected.now payload.now result }
 {
@@ -41,8 +42,8 @@ pub fn to_be_signed_len(protected: &[u8], payload: &[u8]) -> usize
 }
 
 fn write_structure(signed: &[u8], payload: &[u8], buf: &mut [u8])
-    requires signed_fits { length signed.now ≤ 4198400 }
-    requires payload_fits { length payload.now ≤ 4198400 }
+    requires signed_fits { length signed.now ≤ longest_string }
+    requires payload_fits { length payload.now ≤ longest_string }
     requires room { length buf.old ≡ length (tbs_text signed.now payload.now) }
     ensures { buf.new ≡ tbs_text signed.now payload.now }
 {
@@ -56,8 +57,8 @@ fn write_structure(signed: &[u8], payload: &[u8], buf: &mut [u8])
 /// payload]`. A protected string without entries, be it of no bytes or an empty map in whatever width, is signed as `h''`.
 /// The buffer's length is `to_be_signed_len`. It takes no memory.
 pub fn to_be_signed_into(protected: &[u8], payload: &[u8], buf: &mut [u8])
-    requires protected_fits { length protected.now ≤ 4198400 }
-    requires payload_fits { length payload.now ≤ 4198400 }
+    requires protected_fits { length protected.now ≤ longest_string }
+    requires payload_fits { length payload.now ≤ longest_string }
     requires room { length buf.old ≡ tbs_len protected.now payload.now }
     ensures { Tbs protected.now payload.now buf.new }
 {

@@ -1,8 +1,10 @@
 -- `show`: what a statement says, line by line.
-use Rattle.std.specs.Prelude.{◌≡◌, ◌⊎◌, ℕ, ◌++◌, ◌==◌, ◌/◌, Bool, List, length, Option, Some, None, codes, if◌then◌else◌, slice_index}
+use Rattle.std.specs.Prelude.{◌≡◌, ◌⊎◌, ℕ, ◌++◌, Bool, List, length, Option, Some, None, codes, if◌then◌else◌}
 use Rattle.std.specs.Fmt.{decimal}
 use Rattle.hex.specs.Hex.{encode_lower}
 use Rattle.cose_sign1.specs.declared.labels.Label.{Label}
+use Rattle.cose_sign1.specs.declared.sign1.Sign1.{Sign1}
+use Rattle.cose_sign1.specs.Sign1Of.{Sign1Of}
 use Rattle.statement.specs.declared.names.ContentType.{ContentType}
 use Rattle.statement.specs.declared.names.ContentType.TheVariants.{Absent, Named, Number}
 use Rattle.statement.specs.declared.statement_type.Statement.{Statement}
@@ -12,10 +14,6 @@ use Rattle.statement.specs.Parsed.{StatementOf}
 use Rattle.scitt_tool.specs.Answer.{Answer, line, done, refused}
 use Rattle.scitt_tool.specs.Printed.{printed}
 use Rattle.scitt_tool.specs.StopText.{label_text, stop_text}
-
--- the first byte is the head of a tag, major type 6 (RFC 8949, 3.4)
-abbrev pub is_tagged : List ℕ → Bool
-is_tagged bytes = slice_index bytes 0 / 32 == 6
 
 abbrev pub tagged_text : Bool → List ℕ
 tagged_text tagged = if tagged then codes "yes" else codes "no"
@@ -33,9 +31,9 @@ abbrev pub moment_text : Option ℕ → List ℕ
 moment_text None = codes "none"
 moment_text (Some moment) = decimal moment
 
--- the key: tag, algorithm, key name and content type
-abbrev pub key_lines : List ℕ → Statement → List ℕ
-key_lines tagged s =
+-- the header: whether it is tagged, and its parameters algorithm, key name and content type
+abbrev pub header_lines : List ℕ → Statement → List ℕ
+header_lines tagged s =
     line (codes "tagged " ++ tagged) ++ line (codes "alg " ++ alg_text s.alg) ++ line (codes "kid " ++ encode_lower s.kid) ++ line (codes "content-type " ++ type_text s.content_type)
 
 -- the claims
@@ -49,13 +47,15 @@ part_lines s =
     line (codes "payload " ++ decimal (length s.payload)) ++ line (codes "signature " ++ decimal (length s.signature)) ++ line (codes "receipts " ++ decimal (length s.receipts)) ++ line (codes "id " ++ encode_lower s.id)
 
 abbrev pub show_lines : Bool → Statement → List ℕ
-show_lines tagged s = key_lines (tagged_text tagged) s ++ claim_lines s ++ part_lines s
+show_lines tagged s = header_lines (tagged_text tagged) s ++ claim_lines s ++ part_lines s
 
--- the bytes are this statement
+-- the bytes are this message, and this statement
 pub record ShowsStatement (bytes : List ℕ) (answer : Answer) : Type 0 where
+  pub message : Sign1
+  pub decoded : Sign1Of bytes message
   pub statement : Statement
   pub parsed : StatementOf bytes statement
-  pub is : answer ≡ done (show_lines (is_tagged bytes) statement)
+  pub is : answer ≡ done (show_lines message.tagged statement)
 
 -- they are none, for this first reason
 pub record ShowsStop (bytes : List ℕ) (answer : Answer) : Type 0 where

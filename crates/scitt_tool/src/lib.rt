@@ -5,6 +5,7 @@ mod answer;
 mod command;
 mod fault;
 mod file;
+mod laws;
 mod printed;
 mod root;
 mod run;
@@ -12,4 +13,5 @@ mod show;
 mod stop;
 
 pub use answer::Status;
+pub use laws::words_and_files_have_one_text;
 pub use run::run_tool;

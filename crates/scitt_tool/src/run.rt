@@ -46,6 +46,7 @@ pub fn run_tool<F: Folder, K: Sink>(
     ensures complete { Completes words.now (F.files files.old) (F.faults files.old) (F.faults files.new)
         (K.taken out.old) (K.taken out.new) (K.refused out.old) (K.refused out.new) result }
     ensures telling { is_some (K.taken out.new) ≡ is_some (K.taken out.old) }
+    ensures files_kept { F.files files.new ≡ F.files files.old }
 {
     match answer(alloc, words, files) {
         Ok(answer) => answer.say(out),
@@ -63,6 +64,7 @@ fn answer<F: Folder>(alloc: Global, words: &Words, files: &mut F) -> Result<Answ
     ensures no_read_fault { IfOk result (λ answer. answer.status ≢ 3 → F.faults files.new ≡ F.faults files.old) }
     ensures no_memory { OnErr result (F.faults files.new ≡ F.faults files.old) }
     ensures read_whole { IfOk result (λ answer. answer.status ≡ 0 → IsAtEnd (F.left files.new)) }
+    ensures files_kept { F.files files.new ≡ F.files files.old }
     ensures no_other { IfOk result (λ answer. (answer.status ≢ 4) × (answer.status ≢ 5)) }
 {
     match command_of(words) {

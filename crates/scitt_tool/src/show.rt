@@ -2,11 +2,12 @@ ghost use Rattle.std.specs.Prelude.{◌≡◌, ◌++◌, IfOk, OnOk};
 ghost use Rattle.std.specs.Fmt.{decimal};
 ghost use Rattle.std.specs.String.{string_bytes};
 ghost use Rattle.scitt_tool.specs.Answer.{line};
-ghost use Rattle.scitt_tool.specs.Show.{ShowOf, is_tagged, tagged_text, alg_text, type_text, moment_text, key_lines, claim_lines, part_lines, show_lines};
+ghost use Rattle.cose_sign1.specs.Sign1Of.{begins_tagged};
+ghost use Rattle.scitt_tool.specs.Show.{ShowOf, tagged_text, alg_text, type_text, moment_text, header_lines, claim_lines, part_lines, show_lines};
 
 use crate::answer::Answer;
 use crate::stop::{label_text, printed_text, refused_statement};
-use cose_sign1::Label;
+use cose_sign1::{Label, tag_stands_first};
 use statement::{ContentType, ParseStop, Statement, parse};
 use std::alloc::{AllocError, Global};
 
@@ -16,6 +17,7 @@ pub(crate) fn show(alloc: Global, bytes: &[u8]) -> Result<Answer, AllocError>
 {
     match parse(alloc, bytes) {
         Ok(statement) => {
+            tag_stands_first();
             let text = lines(alloc, is_tagged(bytes), &statement)?;
             Ok(Answer::made(0, text))
         }
@@ -25,7 +27,7 @@ pub(crate) fn show(alloc: Global, bytes: &[u8]) -> Result<Answer, AllocError>
 }
 
 fn is_tagged(bytes: &[u8]) -> bool
-    ensures { result ≡ is_tagged bytes.now }
+    ensures { result ≡ begins_tagged bytes.now }
 {
     match bytes.first() {
         Some(first) => *first / 32 == 6,
@@ -36,7 +38,7 @@ fn is_tagged(bytes: &[u8]) -> bool
 fn lines(alloc: Global, tagged: bool, statement: &Statement) -> Result<String, AllocError>
     ensures { IfOk result (λ text. string_bytes text ≡ show_lines tagged statement.now) }
 {
-    let mut text = key_lines(alloc, tagged_text(tagged), statement)?;
+    let mut text = header_lines(alloc, tagged_text(tagged), statement)?;
     let claims = claim_lines(alloc, statement)?;
     let parts = part_lines(alloc, statement)?;
     text.push_str(claims.as_str())?;
@@ -44,8 +46,8 @@ fn lines(alloc: Global, tagged: bool, statement: &Statement) -> Result<String, A
     Ok(text)
 }
 
-fn key_lines(alloc: Global, tagged: &str, statement: &Statement) -> Result<String, AllocError>
-    ensures { IfOk result (λ text. string_bytes text ≡ key_lines tagged.now statement.now) }
+fn header_lines(alloc: Global, tagged: &str, statement: &Statement) -> Result<String, AllocError>
+    ensures { IfOk result (λ text. string_bytes text ≡ header_lines tagged.now statement.now) }
 {
     let alg = alg_text(alloc, &statement.alg)?;
     let kid = hex::encode(alloc, statement.kid.as_slice())?;

@@ -1,2 +1,3 @@
 pub mod BlobLemmas
 pub mod ParseLemmas
+pub mod AnswerLemmas

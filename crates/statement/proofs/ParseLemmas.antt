@@ -1,5 +1,5 @@
 -- From what the steps of parsing answer to the first rule that fails, and to the logged form that reads as the same.
-use Rattle.std.proofs.Common.{◌≡◌, ℕ, List, [], ◌∷◌, Option, Some, None, Result, Ok, Err, refl, sym, subst}
+use Rattle.std.proofs.Common.{◌≡◌, ℕ, List, [], Option, Some, None, Result, Ok, Err, refl, subst}
 use Rattle.cbor_core.specs.declared.tree.Item.{Item}
 use Rattle.cbor_core.specs.declared.tree.Node.{out-Node}
 use Rattle.cose_sign1.specs.declared.sign1.Sign1.{Sign1}
@@ -10,7 +10,7 @@ use Rattle.statement.specs.declared.names.Names.{Names}
 use Rattle.statement.specs.declared.stops.ParseStop.{ParseStop}
 use Rattle.statement.specs.declared.stops.ParseStop.TheVariants.{Sign1 as Refused, Detached, NoClaims, NoIssuer, NoSubject, NoKid, BadClaim, TooLarge, OutOfMemory}
 use Rattle.statement.specs.Claims.{and_then, or_stop, claims_by, kid_by, name_in, name_of, moment_in, held, moment_by, moment_of, moments_of, names_with, values_of, names_of, IsStop}
-use Rattle.statement.specs.Statements.{Reads, Logs}
+use Rattle.statement.specs.Statements.{Reads, Logs, ParseFault}
 use Rattle.statement.specs.Parsed.{Parsed}
 
 -- the parameters fail by rules of their own alone
@@ -102,15 +102,27 @@ module _ (bytes : List ℕ) (v : Sign1) (payload : List ℕ) (is : Sign1Of bytes
   other : (stop : ParseStop) → names_of v.headers.protected ≡ Err stop → OfNames {A = Names} (Err stop)
   other stop h = subst (λ (r : Result Names ParseStop). OfNames r) h (of_names v.headers.protected)
 
+  -- a fault of the parameters is the first rule that fails
+  pub names_fault : (stop : ParseStop) → names_of v.headers.protected ≡ Err stop → ParseFault bytes stop
+  names_fault (Refused stop) h = absurd (other (Refused stop) h)
+  names_fault Detached h = absurd (other Detached h)
+  names_fault NoClaims h = (v, payload, is, there, h)
+  names_fault NoIssuer h = (v, payload, is, there, h)
+  names_fault NoSubject h = (v, payload, is, there, h)
+  names_fault NoKid h = (v, payload, is, there, h)
+  names_fault (BadClaim n) h = (v, payload, is, there, h)
+  names_fault TooLarge h = absurd (other TooLarge h)
+  names_fault OutOfMemory h = absurd (other OutOfMemory h)
+
   pub names_fail : (stop : ParseStop) → IsStop stop (names_of v.headers.protected) → Parsed bytes (Err stop)
-  names_fail (Refused stop) h = absurd (other (Refused stop) h)
-  names_fail Detached h = absurd (other Detached h)
-  names_fail NoClaims h = (v, payload, is, there, h)
-  names_fail NoIssuer h = (v, payload, is, there, h)
-  names_fail NoSubject h = (v, payload, is, there, h)
-  names_fail NoKid h = (v, payload, is, there, h)
-  names_fail (BadClaim n) h = (v, payload, is, there, h)
-  names_fail TooLarge h = absurd (other TooLarge h)
+  names_fail (Refused stop) h = names_fault (Refused stop) h
+  names_fail Detached h = names_fault Detached h
+  names_fail NoClaims h = names_fault NoClaims h
+  names_fail NoIssuer h = names_fault NoIssuer h
+  names_fail NoSubject h = names_fault NoSubject h
+  names_fail NoKid h = names_fault NoKid h
+  names_fail (BadClaim n) h = names_fault (BadClaim n) h
+  names_fail TooLarge h = names_fault TooLarge h
   names_fail OutOfMemory h = tt
 
   pub reads_again : BareIsMessage → (names : Names) → names_of v.headers.protected ≡ Ok names → (logged p c s : List ℕ) → p ≡ v.protected → c ≡ payload → s ≡ v.signature

@@ -1,10 +1,11 @@
 -- What a statement says: its claims (RFC 8392, 3.1 and 4; RFC 9597, 2) and its protected parameters (RFC 9052, 3.1).
-use Rattle.std.specs.Prelude.{◌≡◌, ℕ, Bool, ◌&&◌, List, [], ◌∷◌, length, Option, Some, None, Result, Ok, Err, nat_lt, nat_le, if◌then◌else◌}
+use Rattle.std.specs.Prelude.{◌≡◌, ℕ, ◌&&◌, List, [], ◌∷◌, length, Option, Some, None, Result, Ok, Err, nat_lt, nat_le, if◌then◌else◌}
 use Rattle.cbor_core.specs.declared.tree.Item.{Item}
 use Rattle.cbor_core.specs.declared.tree.Node.{Node-F, out-Node}
 use Rattle.cbor_core.specs.Tree.{Layer}
 use Rattle.cose_sign1.specs.declared.labels.Label.{Label}
 use Rattle.cose_sign1.specs.Labels.{key_label, value_at}
+use Rattle.cose_sign1.specs.Parts.{string_in}
 use Rattle.statement.specs.declared.names.Names.{Names}
 use Rattle.statement.specs.declared.names.ContentType.{ContentType}
 use Rattle.statement.specs.declared.names.ContentType.TheVariants.{Absent, Named, Number}
@@ -21,14 +22,10 @@ abbrev pub or_stop : {A : Type 0} → ParseStop → Option A → Result A ParseS
 or_stop stop None = Err stop
 or_stop stop (Some x) = Ok x
 
--- the entries of a map, the bytes of a byte string, where an item is one
+-- the entries of a map, where an item is one
 abbrev pub map_in : Layer → Option (List (Item × Item))
 map_in (Node-F.Map pairs) = Some pairs
 map_in _ = None
-
-abbrev pub bytes_in : Layer → Option (List ℕ)
-bytes_in (Node-F.Bytes bytes) = Some bytes
-bytes_in _ = None
 
 -- the claims, the map beside label 15
 abbrev pub claims_by : Option Item → Option (List (Item × Item))
@@ -38,7 +35,7 @@ claims_by (Some item) = map_in (out-Node item.node)
 -- the key's name, the byte string beside label 4
 abbrev pub kid_by : Option Item → Option (List ℕ)
 kid_by None = None
-kid_by (Some item) = bytes_in (out-Node item.node)
+kid_by (Some item) = string_in (out-Node item.node)
 
 -- a name: a text of 1 to 1,024 bytes
 abbrev pub name_in : Layer → Option (List ℕ)

@@ -1,3 +1,4 @@
 pub mod Claims
 pub mod Statements
 pub mod Parsed
+pub mod OneAnswer

@@ -1,5 +1,5 @@
 -- The statement that bytes are, or the first rule that fails; its logged form and its id.
-use Rattle.std.specs.Prelude.{◌≡◌, ℕ, ◌<◌, ◌≤◌, List, [], ◌∷◌, Option, Some, None, Result, Ok, Err}
+use Rattle.std.specs.Prelude.{◌≡◌, ℕ, ◌<◌, ◌≤◌, List, Some, None, Result, Ok, Err}
 use Rattle.cbor_core.specs.declared.words.Grammar.TheVariants.{Strict, Wide}
 use Rattle.cbor_core.specs.Spells.{Spells}
 use Rattle.cose_sign1.specs.declared.sign1.Sign1.{Sign1}

@@ -4,6 +4,7 @@
 mod assembling;
 mod blobs;
 mod claims;
+mod laws;
 mod logged;
 mod names;
 mod parsing;
@@ -13,6 +14,7 @@ mod stops;
 mod values;
 
 pub use blobs::Blobs;
+pub use laws::statements_have_one_answer;
 pub use names::ContentType;
 pub use parsing::parse;
 pub use statement_type::{Hash, Statement};

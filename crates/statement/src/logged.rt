@@ -1,6 +1,5 @@
-ghost use Rattle.std.specs.Prelude.{◌≡◌, ◌≤◌, length, nat_lt, IfOk};
-ghost use Rattle.cose_sign1.specs.Message.{bare_len as len_of_bare};
-ghost use Rattle.statement.specs.Statements.{Logs, most_logged};
+ghost use Rattle.std.specs.Prelude.{◌≡◌, length, IfOk};
+ghost use Rattle.statement.specs.Statements.{Logs};
 
 use crate::stops::ParseStop;
 use cbor_core::Bytes;
@@ -8,21 +7,6 @@ use cose_sign1::{bare_into, bare_len};
 use std::alloc::{AllocError, Global};
 
 const MOST: usize = 4_194_304;
-
-fn is_too_large(protected: &[u8], payload: &[u8], signature: &[u8]) -> bool
-    ensures { result ≡ nat_lt most_logged (len_of_bare protected.now payload.now signature.now) }
-{
-    if protected.len() > MOST {
-        return true;
-    }
-    if payload.len() > MOST {
-        return true;
-    }
-    if signature.len() > MOST {
-        return true;
-    }
-    bare_len(protected, payload, signature) > MOST
-}
 
 fn zeros(alloc: Global, len: usize) -> Result<Vec<u8>, AllocError>
     ensures { IfOk result (λ v. length v.items ≡ len) }
@@ -40,13 +24,13 @@ pub fn logged_form(
 ) -> Result<Bytes, ParseStop>
     ensures { Logs protected.now payload.now signature.now result }
 {
-    if is_too_large(protected, payload, signature) {
-        return Err(ParseStop::TooLarge);
-    }
     if protected.len() > MOST || payload.len() > MOST || signature.len() > MOST {
         return Err(ParseStop::TooLarge);
     }
     let len = bare_len(protected, payload, signature);
+    if len > MOST {
+        return Err(ParseStop::TooLarge);
+    }
     let Ok(mut bytes) = zeros(alloc, len) else {
         return Err(ParseStop::OutOfMemory);
     };

@@ -2,7 +2,8 @@ ghost use Rattle.std.specs.Prelude.{◌≡◌, IfOk};
 ghost use Rattle.std.specs.Option.{option_copied};
 ghost use Rattle.cbor_core.specs.declared.tree.Node.{out-Node};
 ghost use Rattle.cose_sign1.specs.Labels.{value_at};
-ghost use Rattle.statement.specs.Claims.{map_in, bytes_in, claims_by, kid_by, name_in, name_of, moment_in, moment_of, moments_of, alg_by, type_in, type_by as type_beside, AnswersAs};
+ghost use Rattle.cose_sign1.specs.Parts.{string_in};
+ghost use Rattle.statement.specs.Claims.{map_in, claims_by, kid_by, name_in, name_of, moment_in, moment_of, moments_of, alg_by, type_in, type_by as type_beside, AnswersAs};
 
 use crate::names::ContentType;
 use crate::stops::ParseStop;
@@ -20,7 +21,7 @@ fn entries_of(node: &Node) -> Option<&[(Item, Item)]>
 }
 
 fn bytes_of(node: &Node) -> Option<&[u8]>
-    ensures { option_copied result ≡ bytes_in (out-Node node.now) }
+    ensures { option_copied result ≡ string_in (out-Node node.now) }
 {
     match node {
         Node::Bytes(bytes) => Some(bytes.as_slice()),

@@ -1,4 +1,4 @@
-use Rattle.std.proofs.Common.{◌≡◌, length, arith}
+use Rattle.std.proofs.Common.{arith}
 use Rattle.cose_sign1.specs.Message.{bare_text}
 use Rattle.cose_sign1.proofs.StringLemmas.{length_string, Writes-then, Writes-whole}
 use Rattle.cose_sign1.proofs.MessageLemmas.{bare_length}

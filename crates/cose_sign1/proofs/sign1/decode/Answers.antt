@@ -1,7 +1,5 @@
-use Rattle.std.proofs.Common.{◌≡◌, ℕ, List, None, Ok, Err, subst, ◌∙◌, ap, sym}
+use Rattle.std.proofs.Common.{ℕ, List, Err, subst}
 use Rattle.std.proofs.lemmas.Result.{err_from_is_err_and}
-use Rattle.cbor_core.specs.declared.tree.Item.{Item}
-use Rattle.cose_sign1.specs.Headers.{header_fault, Says}
 use Rattle.cose_sign1.specs.Sign1Of.{ReadsEntries, HasEntries}
 use Rattle.cose_sign1.proofs.DecodeLemmas.{entries_fail, headers_fail}
 use Rattle.cose_sign1.proofs.sign1.decode.Goals as goal
@@ -22,8 +20,8 @@ returns-in_err-check_headers c =
     let fails = rw (c.as_slice-2.ensures, c.as_slice-3.ensures) at c.in_err-check_headers.ensures in
     rw (p.1, p.2) (headers_fail c.args.bytes.now parts c.in_ok-parts.ensures c.in_ok-entries.entries stop has fails)
 
-pub returns-in-Ok : goal.returns-in-Ok
-returns-in-Ok c =
+pub returns : goal.returns
+returns c =
     let has = subst (λ (s : List ℕ). HasEntries s c.in_ok-entries.entries) c.as_slice.ensures c.in_ok-entries.ensures in
     let none = rw (c.as_slice-2.ensures, c.as_slice-3.ensures) at c.in_ok-check_headers.ensures in
-    (c.in_ok-parts.parts, c.in_ok-entries.entries, c.in_ok-parts.ensures, has, none, c.in-Ok.ensures)
+    (c.in_ok-parts.parts, c.in_ok-entries.entries, c.in_ok-parts.ensures, has, none, c.message.ensures)

@@ -1,5 +1,5 @@
-use Rattle.std.proofs.Common.{List, ℕ, length, arith, subst, sym}
-use Rattle.cose_sign1.specs.Tbs.{Tbs, signed_of, tbs_text}
+use Rattle.std.proofs.Common.{arith}
+use Rattle.cose_sign1.specs.Tbs.{signed_of}
 use Rattle.cose_sign1.proofs.TbsLemmas.{tbs_is, tbs_length, signed_fits}
 use Rattle.cose_sign1.proofs.tbs.to_be_signed_into.Goals as goal
 

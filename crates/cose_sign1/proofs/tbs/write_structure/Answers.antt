@@ -1,6 +1,5 @@
-use Rattle.std.proofs.Common.{length, arith}
-use Rattle.cose_sign1.specs.Strings.{string_text}
-use Rattle.cose_sign1.specs.Tbs.{tbs_text, tbs_front}
+use Rattle.std.proofs.Common.{arith}
+use Rattle.cose_sign1.specs.Tbs.{tbs_text}
 use Rattle.cose_sign1.proofs.StringLemmas.{length_string, Writes-then, Writes-whole}
 use Rattle.cose_sign1.proofs.TbsLemmas.{tbs_length}
 use Rattle.cose_sign1.proofs.tbs.write_structure.Goals as goal

@@ -12,4 +12,4 @@ returns-in_err-names c =
 pub assemble-requires-clause-again : goal.assemble-requires-clause-again
 assemble-requires-clause-again c =
     let named = rw c.as_slice.ensures at c.in_ok-names.ensures in
-    reads_again c.args.bytes.now c.in_ok-message.message c.in-Some.payload c.in_ok-message.ensures c.in-Some.is c.bare_message_is_one.ensures c.in_ok-names.names named c.in_ok-logged.logged c.as_slice-3.result.now c.as_slice-4.result.now c.as_slice-5.result.now c.as_slice-3.ensures c.as_slice-4.ensures c.as_slice-5.ensures c.in_ok-logged.ensures
+    reads_again c.args.bytes.now c.in_ok-message.message c.in-Some.payload c.in_ok-message.ensures c.in-Some.is c.bare_message_is_one.ensures.message c.in_ok-names.names named c.in_ok-logged.logged c.as_slice-3.result.now c.as_slice-4.result.now c.as_slice-5.result.now c.as_slice-3.ensures c.as_slice-4.ensures c.as_slice-5.ensures c.in_ok-logged.ensures

@@ -1,5 +1,5 @@
 use Rattle.std.proofs.Common.{refl}
-use Rattle.scitt_tool.proofs.show.key_lines.Goals as goal
+use Rattle.scitt_tool.proofs.show.header_lines.Goals as goal
 
 pub returns : goal.returns
 returns c =

@@ -1,0 +1,112 @@
+-- Words and files call for one answer: each command's judgement is determined by its file's bytes.
+use Rattle.std.proofs.Common.{◌≡◌, ℕ, ◌++◌, List, [], ◌∷◌, length, map, Bool, Option, Some, None, Result, Ok, Err, inl, inr, refl, sym, ap, ◌∙◌, arith}
+use Rattle.std.specs.Prelude.{codes}
+use Rattle.merkle_tree.specs.Mth.{mth}
+use Rattle.cbor_core.specs.declared.words.Grammar.TheVariants.{Strict}
+use Rattle.cbor_core.specs.declared.words.Fault.{Fault}
+use Rattle.cbor_core.specs.declared.tree.Item.{Item}
+use Rattle.cbor_core.specs.declared.tree.Node.{Node-F, out-Node}
+use Rattle.cbor_core.specs.declared.tree.Node.TheVariants.{outs-Array, outs-Bytes}
+use Rattle.cbor_core.specs.Tree.{Layer}
+use Rattle.cbor_core.specs.Decoding.{NeverBoth, OneItem, OneWholeFault}
+use Rattle.cose_sign1.specs.Sign1Of.{TagStandsFirst}
+use Rattle.statement.specs.declared.statement_type.Statement.{Statement}
+use Rattle.statement.specs.declared.stops.ParseStop.{ParseStop}
+use Rattle.statement.specs.OneAnswer.{OneAnswer}
+use Rattle.scitt_tool.specs.Answer.{Answer, done, refused}
+use Rattle.scitt_tool.specs.Command.{Command, Root, Show, command_of, file_name}
+use Rattle.scitt_tool.specs.Reads.{FileOf, ByFile}
+use Rattle.scitt_tool.specs.FaultText.{fault_text}
+use Rattle.scitt_tool.specs.Root.{root_lines, bytes_item, strings_item, RootOf}
+use Rattle.scitt_tool.specs.StopText.{stop_text}
+use Rattle.scitt_tool.specs.Show.{show_lines, ShowOf}
+use Rattle.scitt_tool.specs.ToolText.{Judged, CommandText, OneText}
+
+abbrev One : (Answer → Type 0) → Type 0
+One P = (a b : Answer) → P a → P b → a ≡ b
+
+-- ---- the strings of an array
+
+abbrev string_of : Layer → List ℕ
+string_of (Node-F.Bytes bytes) = bytes
+string_of _ = []
+
+abbrev parts_of : Layer → List Item
+parts_of (Node-F.Array items) = items
+parts_of _ = []
+
+abbrev back : List Item → List (List ℕ)
+back [] = []
+back (item ∷ items) = string_of (out-Node item.node) ∷ back items
+
+back_again : (strings : List (List ℕ)) → back (map bytes_item strings) ≡ strings
+back_again [] = refl
+back_again (string ∷ strings) = rw (outs-Bytes string, back_again strings) refl
+
+parts_again : (strings : List (List ℕ)) → back (parts_of (out-Node (strings_item strings).node)) ≡ strings
+parts_again strings = rw (outs-Array (map bytes_item strings)) (back_again strings)
+
+same_strings : (s t : List (List ℕ)) → strings_item s ≡ strings_item t → s ≡ t
+same_strings s t e =
+    sym (parts_again s) ∙ ap (λ (item : Item). back (parts_of (out-Node item.node))) e ∙ parts_again t
+
+-- ---- root
+
+one_root : NeverBoth → OneItem → OneWholeFault → (bytes : List ℕ) → One (RootOf bytes)
+one_root never one_item one_fault bytes a b (inl p) (inl q) =
+    p.is ∙ ap (λ (s : List (List ℕ)). done (root_lines (length s) (mth s))) (same_strings p.strings q.strings (one_item Strict bytes _ _ p.spelled q.spelled)) ∙ sym q.is
+one_root never one_item one_fault bytes a b (inl p) (inr (inl q)) = absurd (q.other p.strings (one_item Strict bytes _ _ q.spelled p.spelled))
+one_root never one_item one_fault bytes a b (inl p) (inr (inr q)) = absurd (never Strict bytes _ q.fault p.spelled q.first)
+one_root never one_item one_fault bytes a b (inr (inl p)) (inl q) = absurd (p.other q.strings (one_item Strict bytes _ _ p.spelled q.spelled))
+one_root never one_item one_fault bytes a b (inr (inl p)) (inr (inl q)) = p.is ∙ sym q.is
+one_root never one_item one_fault bytes a b (inr (inl p)) (inr (inr q)) = absurd (never Strict bytes _ q.fault p.spelled q.first)
+one_root never one_item one_fault bytes a b (inr (inr p)) (inl q) = absurd (never Strict bytes _ p.fault q.spelled p.first)
+one_root never one_item one_fault bytes a b (inr (inr p)) (inr (inl q)) = absurd (never Strict bytes _ p.fault q.spelled p.first)
+one_root never one_item one_fault bytes a b (inr (inr p)) (inr (inr q)) =
+    p.is ∙ ap (λ (f : Fault). refused (codes "refused cbor " ++ fault_text f)) (one_fault Strict bytes p.fault q.fault p.first q.first) ∙ sym q.is
+
+-- ---- show
+
+abbrev Parse : Type 0
+Parse = Result Statement ParseStop
+
+ok_is : (s t : Statement) → ◌≡◌ {A = Parse} (Ok s) (Ok t) → s ≡ t
+ok_is s t e = cc
+
+err_is : (p q : ParseStop) → ◌≡◌ {A = Parse} (Err p) (Err q) → p ≡ q
+err_is p q e = cc
+
+ok_err : (s : Statement) (p : ParseStop) → ◌≡◌ {A = Parse} (Ok s) (Err p) → ⊥
+ok_err s p e = cc
+
+one_show : TagStandsFirst → OneAnswer → (bytes : List ℕ) → One (ShowOf bytes)
+one_show tags one bytes a b (inl p) (inl q) =
+    let same = ok_is p.statement q.statement (one bytes (Ok p.statement) (Ok q.statement) p.parsed q.parsed) in
+    let tagged = tags bytes p.message p.decoded ∙ sym (tags bytes q.message q.decoded) in
+    p.is ∙ ap (λ (t : Bool). done (show_lines t p.statement)) tagged ∙ ap (λ (s : Statement). done (show_lines q.message.tagged s)) same ∙ sym q.is
+one_show tags one bytes a b (inl p) (inr q) = absurd (ok_err p.statement q.stop (one bytes (Ok p.statement) (Err q.stop) p.parsed q.first))
+one_show tags one bytes a b (inr p) (inl q) = absurd (ok_err q.statement p.stop (one bytes (Ok q.statement) (Err p.stop) q.parsed p.first))
+one_show tags one bytes a b (inr p) (inr q) =
+    let same = err_is p.stop q.stop (one bytes (Err p.stop) (Err q.stop) p.first q.first) in
+    p.is ∙ ap (λ (s : ParseStop). refused (codes "refused " ++ stop_text s)) same ∙ sym q.is
+
+-- ---- a command over files
+
+one_file : (P : List ℕ → Answer → Type 0) → ((bytes : List ℕ) → One (P bytes)) → (o : Option (List ℕ)) → One (ByFile P o)
+one_file P each None a b p q = p ∙ sym q
+one_file P each (Some bytes) a b (inl (small, p)) (inl (little, q)) = each bytes a b p q
+one_file P each (Some bytes) a b (inl (small, p)) (inr (long, q)) = absurd (omega (arith, small, long))
+one_file P each (Some bytes) a b (inr (long, p)) (inl (small, q)) = absurd (omega (arith, small, long))
+one_file P each (Some bytes) a b (inr (long, p)) (inr (large, q)) = p ∙ sym q
+
+module _ (never : NeverBoth) (one_item : OneItem) (one_fault : OneWholeFault) (tags : TagStandsFirst) (one : OneAnswer) where
+  one_judged : (command : Command) (bytes : List ℕ) → One (Judged command bytes)
+  one_judged (Root file) bytes = one_root never one_item one_fault bytes
+  one_judged (Show file) bytes = one_show tags one bytes
+
+  one_command : (o : Option Command) (file_of : FileOf) → One (CommandText o file_of)
+  one_command None file_of a b p q = p ∙ sym q
+  one_command (Some command) file_of a b p q = one_file (Judged command) (one_judged command) (file_of (file_name command)) a b p q
+
+  pub one_text : OneText
+  one_text words file_of a b p q = one_command (command_of words) file_of a b p q

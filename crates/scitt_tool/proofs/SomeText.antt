@@ -1,0 +1,152 @@
+-- Words and files call for an answer: each command judges all bytes.
+use Rattle.std.proofs.Common.{◌≡◌, ◌≢◌, ℕ, suc, ◌++◌, ◌≤◌, ◌⊎◌, List, [], ◌∷◌, length, map, Option, Some, None, Result, Ok, Err, inl, inr, refl, sym, ap, subst, ◌∙◌}
+use Rattle.std.proofs.lemmas.Bool.{cases_lt}
+use Rattle.std.specs.Prelude.{codes}
+use Rattle.merkle_tree.specs.Mth.{mth}
+use Rattle.cbor_core.specs.declared.words.Grammar.TheVariants.{Strict}
+use Rattle.cbor_core.specs.declared.tree.Item.{Item}
+use Rattle.cbor_core.specs.declared.tree.Node.{Node-F, out-Node}
+use Rattle.cbor_core.specs.declared.tree.Node.TheVariants.{outs-Array, outs-Bytes}
+use Rattle.cbor_core.specs.Bytes.{IsBytes}
+use Rattle.cbor_core.specs.Head.{IsHead}
+use Rattle.cbor_core.specs.Tree.{Layer}
+use Rattle.cbor_core.specs.Spells.{SpellEach, SpellsLayer, SpellsIn, Spells}
+use Rattle.cbor_core.specs.Decoding.{ItemOrFault}
+use Rattle.statement.specs.declared.statement_type.Statement.{Statement}
+use Rattle.statement.specs.declared.stops.ParseStop.{ParseStop}
+use Rattle.statement.specs.OneAnswer.{AnswerOf, SomeAnswer}
+use Rattle.scitt_tool.specs.Answer.{Answer, done, refused, words_refused, unread, too_long}
+use Rattle.scitt_tool.specs.Command.{Command, Root, Show, command_of, file_name}
+use Rattle.scitt_tool.specs.Reads.{FileOf, limit, ByFile}
+use Rattle.scitt_tool.specs.FaultText.{fault_text}
+use Rattle.scitt_tool.specs.Root.{root_lines, bytes_item, strings_item, RootOf}
+use Rattle.scitt_tool.specs.StopText.{stop_text}
+use Rattle.scitt_tool.specs.Show.{show_lines, ShowOf}
+use Rattle.scitt_tool.specs.ToolText.{Judged, CommandText, SomeText}
+
+abbrev Has : (Answer → Type 0) → Type 0
+Has P = (answer : Answer) × P answer
+
+-- ---- an item is an array of byte strings, or not
+
+abbrev OneString : Item → Type 0
+OneString item = ((bytes : List ℕ) × (out-Node item.node ≡ Node-F.Bytes bytes)) ⊎ ((bytes : List ℕ) → item ≢ bytes_item bytes)
+
+-- another layer than that of a byte string
+no_string : (item : Item) (l : Layer) → out-Node item.node ≡ l → ((bytes : List ℕ) → l ≢ Node-F.Bytes bytes) → (bytes : List ℕ) → item ≢ bytes_item bytes
+no_string item l e other bytes is = other bytes (sym e ∙ ap (λ (x : Item). out-Node x.node) is ∙ outs-Bytes bytes)
+
+one_string : (item : Item) (l : Layer) → out-Node item.node ≡ l → OneString item
+one_string item (Node-F.Bytes bytes) e = inl (bytes, e)
+one_string item (Node-F.Uint n) e = inr (no_string item (Node-F.Uint n) e (λ bytes is. cc))
+one_string item (Node-F.Nint n) e = inr (no_string item (Node-F.Nint n) e (λ bytes is. cc))
+one_string item (Node-F.Text text) e = inr (no_string item (Node-F.Text text) e (λ bytes is. cc))
+one_string item (Node-F.Array items) e = inr (no_string item (Node-F.Array items) e (λ bytes is. cc))
+one_string item (Node-F.Map pairs) e = inr (no_string item (Node-F.Map pairs) e (λ bytes is. cc))
+one_string item (Node-F.Tag n inner) e = inr (no_string item (Node-F.Tag n inner) e (λ bytes is. cc))
+one_string item (Node-F.Simple n) e = inr (no_string item (Node-F.Simple n) e (λ bytes is. cc))
+one_string item (Node-F.Float width bits) e = inr (no_string item (Node-F.Float width bits) e (λ bytes is. cc))
+
+abbrev SpellsEach : List Item → List ℕ → Type 0
+SpellsEach items text = SpellEach (SpellsIn Strict 15) items text
+
+abbrev EachString : List Item → List ℕ → Type 0
+EachString items text = ((strings : List (List ℕ)) × (length items ≡ length (map bytes_item strings)) × SpellsEach (map bytes_item strings) text) ⊎ ((strings : List (List ℕ)) → items ≢ map bytes_item strings)
+
+-- the same bytes spell the byte string itself
+as_string : (item : Item) (bytes text : List ℕ) → out-Node item.node ≡ Node-F.Bytes bytes → SpellsIn Strict 15 item text → SpellsIn Strict 15 (bytes_item bytes) text
+unfolding SpellsIn
+as_string item bytes text e s =
+    subst (λ (l : Layer). SpellsLayer Strict 15 (SpellsIn Strict 14) l text) (e ∙ sym (outs-Bytes bytes)) s
+
+with_string : (item : Item) (items : List Item) (front rest text : List ℕ) → SpellsIn Strict 15 item front → text ≡ front ++ rest → OneString item → EachString items rest → EachString (item ∷ items) text
+unfolding SpellEach
+with_string item items front rest text first is (inl (bytes, e)) (inl (strings, len, others)) =
+    inl (bytes ∷ strings, ap suc len, (front, rest, as_string item bytes front e first, others, is))
+with_string item items front rest text first is (inl (bytes, e)) (inr none) =
+    inr (λ strings. elim strings as (λ (s : List (List ℕ)). item ∷ items ≢ map bytes_item s) [ [] ↦ λ all. cc | x ∷ xs ↦ λ all. none xs cc ])
+with_string item items front rest text first is (inr other) each =
+    inr (λ strings. elim strings as (λ (s : List (List ℕ)). item ∷ items ≢ map bytes_item s) [ [] ↦ λ all. cc | x ∷ xs ↦ λ all. other x cc ])
+
+each_string : (items : List Item) (text : List ℕ) → SpellsEach items text → EachString items text
+unfolding SpellEach
+each_string [] text s = inl ([], refl, s)
+each_string (item ∷ items) text (front, rest, first, others, is) =
+    with_string item items front rest text first is (one_string item (out-Node item.node) refl) (each_string items rest others)
+
+abbrev AllStrings : Item → List ℕ → Type 0
+AllStrings item bytes = ((strings : List (List ℕ)) × Spells Strict (strings_item strings) bytes) ⊎ ((strings : List (List ℕ)) → item ≢ strings_item strings)
+
+no_array : (item : Item) (l : Layer) → out-Node item.node ≡ l → ((items : List Item) → l ≢ Node-F.Array items) → (strings : List (List ℕ)) → item ≢ strings_item strings
+no_array item l e other strings is = other (map bytes_item strings) (sym e ∙ ap (λ (x : Item). out-Node x.node) is ∙ outs-Array (map bytes_item strings))
+
+abbrev SpellsTop : Layer → List ℕ → Type 0
+SpellsTop l bytes = SpellsLayer Strict 16 (SpellsIn Strict 15) l bytes
+
+-- an array whose items are byte strings
+from_each : (item : Item) (items : List Item) (bytes : List ℕ) → out-Node item.node ≡ Node-F.Array items → SpellsTop (Node-F.Array items) bytes
+    → ((rest : List ℕ) → SpellsEach items rest → EachString items rest) → AllStrings item bytes
+unfolding Spells SpellsIn
+from_each item items bytes e (some, few, (front, rest, head, each, is)) judge =
+    elim (judge rest each) [
+      | inl (strings, len, others) ↦
+          let few' = subst (λ (n : ℕ). n ≤ 4096) len few in
+          let head' = subst (λ (n : ℕ). IsHead Strict 4 n front) len head in
+          inl (strings, subst (λ (l : Layer). SpellsTop l bytes) (sym (outs-Array (map bytes_item strings))) (some, few', (front, rest, head', others, is)))
+      | inr none ↦ inr (λ strings all. none strings (let same : out-Node item.node ≡ Node-F.Array (map bytes_item strings) = ap (λ (x : Item). out-Node x.node) all ∙ outs-Array (map bytes_item strings) in let both = sym e ∙ same in cc))
+    ]
+
+all_strings : (item : Item) (bytes : List ℕ) (l : Layer) → out-Node item.node ≡ l → SpellsTop l bytes → AllStrings item bytes
+all_strings item bytes (Node-F.Array items) e s = from_each item items bytes e s (λ rest each. each_string items rest each)
+all_strings item bytes (Node-F.Uint n) e s = inr (no_array item (Node-F.Uint n) e (λ items is. cc))
+all_strings item bytes (Node-F.Nint n) e s = inr (no_array item (Node-F.Nint n) e (λ items is. cc))
+all_strings item bytes (Node-F.Bytes string) e s = inr (no_array item (Node-F.Bytes string) e (λ items is. cc))
+all_strings item bytes (Node-F.Text text) e s = inr (no_array item (Node-F.Text text) e (λ items is. cc))
+all_strings item bytes (Node-F.Map pairs) e s = inr (no_array item (Node-F.Map pairs) e (λ items is. cc))
+all_strings item bytes (Node-F.Tag n inner) e s = inr (no_array item (Node-F.Tag n inner) e (λ items is. cc))
+all_strings item bytes (Node-F.Simple n) e s = inr (no_array item (Node-F.Simple n) e (λ items is. cc))
+all_strings item bytes (Node-F.Float width bits) e s = inr (no_array item (Node-F.Float width bits) e (λ items is. cc))
+
+are_strings : (item : Item) (bytes : List ℕ) → Spells Strict item bytes → AllStrings item bytes
+unfolding Spells SpellsIn
+are_strings item bytes s = all_strings item bytes (out-Node item.node) refl s
+
+-- ---- the commands
+
+some_root : ItemOrFault → (bytes : List ℕ) → IsBytes bytes → Has (RootOf bytes)
+some_root either bytes fits =
+    elim (either Strict bytes fits) [
+      | inl (item, s) ↦
+          elim (are_strings item bytes s) [
+            | inl (strings, t) ↦ (done (root_lines (length strings) (mth strings)), inl (record { strings = strings; spelled = t; is = refl }))
+            | inr other ↦ (refused (codes "refused shape"), inr (inl (record { item = item; spelled = s; other = other; is = refl })))
+          ]
+      | inr (fault, f) ↦ (refused (codes "refused cbor " ++ fault_text fault), inr (inr (record { fault = fault; first = f; is = refl })))
+    ]
+
+shown : (bytes : List ℕ) (answer : Result Statement ParseStop) → AnswerOf bytes answer → Has (ShowOf bytes)
+shown bytes (Ok s) p =
+    let read = p.0 in
+    (done (show_lines read.0.tagged s), inl (record { message = read.0; decoded = read.1; statement = s; parsed = p; is = refl }))
+shown bytes (Err stop) p = (refused (codes "refused " ++ stop_text stop), inr (record { stop = stop; first = p; is = refl }))
+
+module _ (either : ItemOrFault) (some : SomeAnswer) where
+  some_judged : (command : Command) (bytes : List ℕ) → IsBytes bytes → Has (Judged command bytes)
+  some_judged (Root file) bytes fits = some_root either bytes fits
+  some_judged (Show file) bytes fits = let found = some bytes fits in shown bytes found.0 found.1
+
+  some_file : (command : Command) (o : Option (List ℕ)) → ((bytes : List ℕ) → o ≡ Some bytes → IsBytes bytes) → Has (ByFile (Judged command) o)
+  some_file command None fits = (unread, refl)
+  some_file command (Some bytes) fits =
+      elim (cases_lt limit (length bytes)) [
+        | inl long ↦ (too_long, inr (long, refl))
+        | inr within ↦ (let judged = some_judged command bytes (fits bytes refl) in (judged.0, inl (within, judged.1)))
+      ]
+
+  some_command : (o : Option Command) (file_of : FileOf) → ((name bytes : List ℕ) → file_of name ≡ Some bytes → IsBytes bytes) → Has (CommandText o file_of)
+  some_command None file_of fits = (words_refused, refl)
+  some_command (Some command) file_of fits =
+      some_file command (file_of (file_name command)) (fits (file_name command))
+
+  pub some_text : SomeText
+  some_text words file_of fits = some_command (command_of words) file_of fits
