@@ -11,9 +11,10 @@ use Rattle.cbor_core.specs.declared.tree.Node.{out-Node}
 use Rattle.cbor_core.specs.declared.tree.Node.TheVariants.{outs-Bytes}
 use Rattle.cbor_core.specs.Tree.{Layer}
 use Rattle.cbor_core.specs.Head.{head, MayStand}
+use Rattle.cbor_core.specs.Encoding.{size_of}
 use Rattle.cbor_core.specs.Spells.{SpellsLayer}
 use Rattle.cbor_core.specs.Limits.{longest_string}
-use Rattle.cose_sign1.specs.Strings.{shortest, head_len, string_head, string_text, string_len, Writes}
+use Rattle.cose_sign1.specs.Strings.{head_len, string_head, string_text, string_len, Writes}
 use Rattle.cose_sign1.specs.Tbs.{byte_item}
 
 pick : (P : Size → ℕ → Type 0) (b : Bool) (s t : Size) (k m : ℕ) → (b ≡ true → P s k) → (b ≡ false → P t m) → P (if b then s else t) (if b then k else m)
@@ -21,7 +22,7 @@ pick P true s t k m f g = f refl
 pick P false s t k m f g = g refl
 
 -- what holds at each size, under its bounds, holds at the shortest one
-by_size : (n : ℕ) (P : Size → ℕ → Type 0) → (n < 24 → P Within 1) → (24 ≤ n → n < 2 ^ 8 → P One 2) → (2 ^ 8 ≤ n → n < 2 ^ 16 → P Two 3) → (2 ^ 16 ≤ n → n < 2 ^ 32 → P Four 5) → (2 ^ 32 ≤ n → P Eight 9) → P (shortest n) (head_len n)
+by_size : (n : ℕ) (P : Size → ℕ → Type 0) → (n < 24 → P Within 1) → (24 ≤ n → n < 2 ^ 8 → P One 2) → (2 ^ 8 ≤ n → n < 2 ^ 16 → P Two 3) → (2 ^ 16 ≤ n → n < 2 ^ 32 → P Four 5) → (2 ^ 32 ≤ n → P Eight 9) → P (size_of n) (head_len n)
 unfolding head_len
 by_size n P a b c d e =
     pick P (nat_lt n 24) _ _ _ _ (λ t. a (ltb-true n 24 t)) (λ f. pick P (nat_lt n (2 ^ 8)) _ _ _ _ (λ t. b (ltb-false n 24 f) (ltb-true n (2 ^ 8) t)) (λ g. pick P (nat_lt n (2 ^ 16)) _ _ _ _ (λ t. c (ltb-false n (2 ^ 8) g) (ltb-true n (2 ^ 16) t)) (λ h. pick P (nat_lt n (2 ^ 32)) _ _ _ _ (λ t. d (ltb-false n (2 ^ 16) h) (ltb-true n (2 ^ 32) t)) (λ k. e (ltb-false n (2 ^ 32) k)))))
@@ -30,14 +31,14 @@ pub length_head : (n : ℕ) → length (string_head n) ≡ head_len n
 unfolding string_head
 length_head n = by_size n (λ s k. length (head 2 s n) ≡ k) (λ _. refl) (λ _ _. refl) (λ _ _. refl) (λ _ _. refl) (λ _. refl)
 
-shortest_stands : (n : ℕ) → n < 2 ^ 64 → MayStand Strict (shortest n) n
+shortest_stands : (n : ℕ) → n < 2 ^ 64 → MayStand Strict (size_of n) n
 shortest_stands n fits =
     by_size n (λ s k. MayStand Strict s n) (λ a. (omega arith, a)) (λ a b. (a, b)) (λ a b. (a, b)) (λ a b. (a, b)) (λ a. (a, fits))
 
 pub length_string : (bytes : List ℕ) → length (string_text bytes) ≡ string_len (length bytes)
 length_string bytes = omega (arith, length-append (string_head (length bytes)) bytes, length_head (length bytes))
 
-stands_in : (g : Grammar) (n : ℕ) → n < 2 ^ 64 → MayStand g (shortest n) n
+stands_in : (g : Grammar) (n : ℕ) → n < 2 ^ 64 → MayStand g (size_of n) n
 stands_in Strict n fits = shortest_stands n fits
 stands_in Wide n fits = (shortest_stands n fits).1
 
@@ -45,7 +46,7 @@ pub string_spelled : (g : Grammar) (room : ℕ) (Part : Item → List ℕ → Ty
 unfolding string_head
 string_spelled g room Part bytes fits =
     let n = length bytes in
-    subst (λ (l : Layer). SpellsLayer g room Part l (string_text bytes)) (sym (outs-Bytes bytes)) (fits, (head 2 (shortest n) n, bytes, (shortest n, stands_in g n (omega arith), refl), refl, refl))
+    subst (λ (l : Layer). SpellsLayer g room Part l (string_text bytes)) (sym (outs-Bytes bytes)) (fits, (head 2 (size_of n) n, bytes, (size_of n, stands_in g n (omega arith), refl), refl, refl))
 
 pub Writes-then : {s t : List ℕ} {at m e : ℕ} {a b c : List ℕ} → Writes s at a b m → Writes t m b c e → Writes (s ++ t) at a c e
 Writes-then {s} {t} {at} {m} {e} {a} {b} {c} first next = record {

@@ -1,12 +1,7 @@
 -- The strict spelling of a byte string (RFC 8949, 3.1 and 4.2.1), and what a writer leaves in a buffer.
 use Rattle.std.specs.Prelude.{◌≡◌, ℕ, ◌+◌, ◌^◌, List, ◌++◌, length, take, nat_lt, if◌then◌else◌}
-use Rattle.cbor_core.specs.declared.heads.Size.{Size}
-use Rattle.cbor_core.specs.declared.heads.Size.TheVariants.{Within, One, Two, Four, Eight}
 use Rattle.cbor_core.specs.Head.{head}
-
--- the shortest size of an argument
-abbrev pub shortest : ℕ → Size
-shortest n = if nat_lt n 24 then Within else (if nat_lt n (2 ^ 8) then One else (if nat_lt n (2 ^ 16) then Two else (if nat_lt n (2 ^ 32) then Four else Eight)))
+use Rattle.cbor_core.specs.Encoding.{size_of}
 
 -- how many bytes the head of a string of so many bytes has
 unfoldable pub head_len : ℕ → ℕ
@@ -14,7 +9,7 @@ head_len n = if nat_lt n 24 then 1 else (if nat_lt n (2 ^ 8) then 2 else (if nat
 
 -- the head of a byte string
 unfoldable pub string_head : ℕ → List ℕ
-string_head n = head 2 (shortest n) n
+string_head n = head 2 (size_of n) n
 
 -- a byte string: its head and its bytes
 abbrev pub string_text : List ℕ → List ℕ

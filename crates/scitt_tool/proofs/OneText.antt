@@ -17,7 +17,8 @@ use Rattle.scitt_tool.specs.Answer.{Answer, done, refused}
 use Rattle.scitt_tool.specs.Command.{Command, Root, Show, command_of, file_name}
 use Rattle.scitt_tool.specs.Reads.{FileOf, ByFile}
 use Rattle.scitt_tool.specs.FaultText.{fault_text}
-use Rattle.scitt_tool.specs.Root.{root_lines, bytes_item, strings_item, RootOf}
+use Rattle.cose_sign1.specs.Tbs.{byte_item}
+use Rattle.scitt_tool.specs.Root.{root_lines, strings_item, RootOf}
 use Rattle.scitt_tool.specs.StopText.{stop_text}
 use Rattle.scitt_tool.specs.Show.{show_lines, ShowOf}
 use Rattle.scitt_tool.specs.ToolText.{Judged, CommandText, OneText}
@@ -39,12 +40,12 @@ abbrev back : List Item → List (List ℕ)
 back [] = []
 back (item ∷ items) = string_of (out-Node item.node) ∷ back items
 
-back_again : (strings : List (List ℕ)) → back (map bytes_item strings) ≡ strings
+back_again : (strings : List (List ℕ)) → back (map byte_item strings) ≡ strings
 back_again [] = refl
 back_again (string ∷ strings) = rw (outs-Bytes string, back_again strings) refl
 
 parts_again : (strings : List (List ℕ)) → back (parts_of (out-Node (strings_item strings).node)) ≡ strings
-parts_again strings = rw (outs-Array (map bytes_item strings)) (back_again strings)
+parts_again strings = rw (outs-Array (map byte_item strings)) (back_again strings)
 
 same_strings : (s t : List (List ℕ)) → strings_item s ≡ strings_item t → s ≡ t
 same_strings s t e =

@@ -19,7 +19,8 @@ use Rattle.scitt_tool.specs.Answer.{Answer, done, refused, words_refused, unread
 use Rattle.scitt_tool.specs.Command.{Command, Root, Show, command_of, file_name}
 use Rattle.scitt_tool.specs.Reads.{FileOf, limit, ByFile}
 use Rattle.scitt_tool.specs.FaultText.{fault_text}
-use Rattle.scitt_tool.specs.Root.{root_lines, bytes_item, strings_item, RootOf}
+use Rattle.cose_sign1.specs.Tbs.{byte_item}
+use Rattle.scitt_tool.specs.Root.{root_lines, strings_item, RootOf}
 use Rattle.scitt_tool.specs.StopText.{stop_text}
 use Rattle.scitt_tool.specs.Show.{show_lines, ShowOf}
 use Rattle.scitt_tool.specs.ToolText.{Judged, CommandText, SomeText}
@@ -30,10 +31,10 @@ Has P = (answer : Answer) × P answer
 -- ---- an item is an array of byte strings, or not
 
 abbrev OneString : Item → Type 0
-OneString item = ((bytes : List ℕ) × (out-Node item.node ≡ Node-F.Bytes bytes)) ⊎ ((bytes : List ℕ) → item ≢ bytes_item bytes)
+OneString item = ((bytes : List ℕ) × (out-Node item.node ≡ Node-F.Bytes bytes)) ⊎ ((bytes : List ℕ) → item ≢ byte_item bytes)
 
 -- another layer than that of a byte string
-no_string : (item : Item) (l : Layer) → out-Node item.node ≡ l → ((bytes : List ℕ) → l ≢ Node-F.Bytes bytes) → (bytes : List ℕ) → item ≢ bytes_item bytes
+no_string : (item : Item) (l : Layer) → out-Node item.node ≡ l → ((bytes : List ℕ) → l ≢ Node-F.Bytes bytes) → (bytes : List ℕ) → item ≢ byte_item bytes
 no_string item l e other bytes is = other bytes (sym e ∙ ap (λ (x : Item). out-Node x.node) is ∙ outs-Bytes bytes)
 
 one_string : (item : Item) (l : Layer) → out-Node item.node ≡ l → OneString item
@@ -51,10 +52,10 @@ abbrev SpellsEach : List Item → List ℕ → Type 0
 SpellsEach items text = SpellEach (SpellsIn Strict 15) items text
 
 abbrev EachString : List Item → List ℕ → Type 0
-EachString items text = ((strings : List (List ℕ)) × (length items ≡ length (map bytes_item strings)) × SpellsEach (map bytes_item strings) text) ⊎ ((strings : List (List ℕ)) → items ≢ map bytes_item strings)
+EachString items text = ((strings : List (List ℕ)) × (length items ≡ length (map byte_item strings)) × SpellsEach (map byte_item strings) text) ⊎ ((strings : List (List ℕ)) → items ≢ map byte_item strings)
 
 -- the same bytes spell the byte string itself
-as_string : (item : Item) (bytes text : List ℕ) → out-Node item.node ≡ Node-F.Bytes bytes → SpellsIn Strict 15 item text → SpellsIn Strict 15 (bytes_item bytes) text
+as_string : (item : Item) (bytes text : List ℕ) → out-Node item.node ≡ Node-F.Bytes bytes → SpellsIn Strict 15 item text → SpellsIn Strict 15 (byte_item bytes) text
 unfolding SpellsIn
 as_string item bytes text e s =
     subst (λ (l : Layer). SpellsLayer Strict 15 (SpellsIn Strict 14) l text) (e ∙ sym (outs-Bytes bytes)) s
@@ -64,9 +65,9 @@ unfolding SpellEach
 with_string item items front rest text first is (inl (bytes, e)) (inl (strings, len, others)) =
     inl (bytes ∷ strings, ap suc len, (front, rest, as_string item bytes front e first, others, is))
 with_string item items front rest text first is (inl (bytes, e)) (inr none) =
-    inr (λ strings. elim strings as (λ (s : List (List ℕ)). item ∷ items ≢ map bytes_item s) [ [] ↦ λ all. cc | x ∷ xs ↦ λ all. none xs cc ])
+    inr (λ strings. elim strings as (λ (s : List (List ℕ)). item ∷ items ≢ map byte_item s) [ [] ↦ λ all. cc | x ∷ xs ↦ λ all. none xs cc ])
 with_string item items front rest text first is (inr other) each =
-    inr (λ strings. elim strings as (λ (s : List (List ℕ)). item ∷ items ≢ map bytes_item s) [ [] ↦ λ all. cc | x ∷ xs ↦ λ all. other x cc ])
+    inr (λ strings. elim strings as (λ (s : List (List ℕ)). item ∷ items ≢ map byte_item s) [ [] ↦ λ all. cc | x ∷ xs ↦ λ all. other x cc ])
 
 each_string : (items : List Item) (text : List ℕ) → SpellsEach items text → EachString items text
 unfolding SpellEach
@@ -78,7 +79,7 @@ abbrev AllStrings : Item → List ℕ → Type 0
 AllStrings item bytes = ((strings : List (List ℕ)) × Spells Strict (strings_item strings) bytes) ⊎ ((strings : List (List ℕ)) → item ≢ strings_item strings)
 
 no_array : (item : Item) (l : Layer) → out-Node item.node ≡ l → ((items : List Item) → l ≢ Node-F.Array items) → (strings : List (List ℕ)) → item ≢ strings_item strings
-no_array item l e other strings is = other (map bytes_item strings) (sym e ∙ ap (λ (x : Item). out-Node x.node) is ∙ outs-Array (map bytes_item strings))
+no_array item l e other strings is = other (map byte_item strings) (sym e ∙ ap (λ (x : Item). out-Node x.node) is ∙ outs-Array (map byte_item strings))
 
 abbrev SpellsTop : Layer → List ℕ → Type 0
 SpellsTop l bytes = SpellsLayer Strict 16 (SpellsIn Strict 15) l bytes
@@ -92,8 +93,8 @@ from_each item items bytes e (some, few, (front, rest, head, each, is)) judge =
       | inl (strings, len, others) ↦
           let few' = subst (λ (n : ℕ). n ≤ 4096) len few in
           let head' = subst (λ (n : ℕ). IsHead Strict 4 n front) len head in
-          inl (strings, subst (λ (l : Layer). SpellsTop l bytes) (sym (outs-Array (map bytes_item strings))) (some, few', (front, rest, head', others, is)))
-      | inr none ↦ inr (λ strings all. none strings (let same : out-Node item.node ≡ Node-F.Array (map bytes_item strings) = ap (λ (x : Item). out-Node x.node) all ∙ outs-Array (map bytes_item strings) in let both = sym e ∙ same in cc))
+          inl (strings, subst (λ (l : Layer). SpellsTop l bytes) (sym (outs-Array (map byte_item strings))) (some, few', (front, rest, head', others, is)))
+      | inr none ↦ inr (λ strings all. none strings (let same : out-Node item.node ≡ Node-F.Array (map byte_item strings) = ap (λ (x : Item). out-Node x.node) all ∙ outs-Array (map byte_item strings) in let both = sym e ∙ same in cc))
     ]
 
 all_strings : (item : Item) (bytes : List ℕ) (l : Layer) → out-Node item.node ≡ l → SpellsTop l bytes → AllStrings item bytes

@@ -4,11 +4,12 @@ use Rattle.std.specs.Fmt.{decimal}
 use Rattle.hex.specs.Hex.{encode_lower}
 use Rattle.merkle_tree.specs.Mth.{mth, leaf_hash}
 use Rattle.cbor_core.specs.declared.tree.Item.{Item}
-use Rattle.cbor_core.specs.declared.tree.Node.TheVariants.{Array, Bytes}
+use Rattle.cbor_core.specs.declared.tree.Node.TheVariants.{Array}
 use Rattle.cbor_core.specs.declared.words.Fault.{Fault}
 use Rattle.cbor_core.specs.declared.words.DecodeStop.TheVariants.{Fault as AtFault}
 use Rattle.cbor_core.specs.declared.words.Grammar.TheVariants.{Strict}
 use Rattle.cbor_core.specs.Spells.{Spells}
+use Rattle.cose_sign1.specs.Tbs.{byte_item}
 use Rattle.cbor_core.specs.Decoding.{DecodedAll}
 use Rattle.scitt_tool.specs.Answer.{Answer, line, done, refused}
 use Rattle.scitt_tool.specs.FaultText.{fault_text}
@@ -17,18 +18,14 @@ use Rattle.scitt_tool.specs.FaultText.{fault_text}
 abbrev pub root_lines : ℕ → List ℕ → List ℕ
 root_lines size root = line (codes "size " ++ decimal size) ++ line (codes "root " ++ encode_lower root)
 
--- a byte string
-abbrev pub bytes_item : List ℕ → Item
-bytes_item bytes = record { node = Bytes bytes }
-
 -- an array of byte strings
 abbrev pub strings_item : List (List ℕ) → Item
-strings_item strings = record { node = Array (map bytes_item strings) }
+strings_item strings = record { node = Array (map byte_item strings) }
 
 -- a tree over these items, which are byte strings
 pub record HoldsItems (items : List Item) (leaves : List (List ℕ)) : Type 0 where
   pub strings : List (List ℕ)
-  pub items_are : items ≡ map bytes_item strings
+  pub items_are : items ≡ map byte_item strings
   pub leaves_are : leaves ≡ map leaf_hash strings
 
 -- a tree over the strings of this item, which is an array of byte strings

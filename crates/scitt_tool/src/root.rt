@@ -2,7 +2,8 @@ ghost use Rattle.std.specs.Prelude.{◌≡◌, ◌≢◌, ◌≤◌, ℕ, List, 
 ghost use Rattle.std.specs.String.{string_bytes};
 ghost use Rattle.cbor_core.specs.declared.words.Grammar.TheVariants.{Strict};
 ghost use Rattle.cbor_core.specs.Spells.{Spells};
-ghost use Rattle.scitt_tool.specs.Root.{RootOf, root_lines, strings_item, bytes_item, HoldsItems, HoldsStrings};
+ghost use Rattle.cose_sign1.specs.Tbs.{byte_item};
+ghost use Rattle.scitt_tool.specs.Root.{RootOf, root_lines, strings_item, HoldsItems, HoldsStrings};
 
 use crate::answer::Answer;
 use crate::fault::refused_cbor;
@@ -47,7 +48,7 @@ fn frontier_of(item: &Item) -> Option<Frontier>
 /// The tree over items that are byte strings, and none where another stands among them.
 fn leaves_of(items: &[Item]) -> Option<Frontier>
     requires { length items.now ≤ 4096 }
-    ensures { MatchOption result ((strings : List (List ℕ)) → items.now ≢ map bytes_item strings) (HoldsItems items.now) }
+    ensures { MatchOption result ((strings : List (List ℕ)) → items.now ≢ map byte_item strings) (HoldsItems items.now) }
 {
     let mut frontier = Frontier::new();
     for item in items {
