@@ -2,9 +2,11 @@
 
 use crate::vectors::{GIVEN_KEY, GIVEN_SIGNATURE, HIERARCHIES, Hierarchy};
 use hex::FromHex;
-use hss_keys::{HssPublic, Key60, Level, Levels, LmsType, Signer, flat_index, hss_verify};
-use lms_ots::{Hash, OtsType, ots_type};
-use lms_tree::lms_type;
+use hss_keys::{
+    HssPublic, Key60, Level, Levels, LmsType, OtsType, Signer, flat_index, hss_verify, lms_type,
+    names_levels, ots_type,
+};
+use lms_ots::Hash;
 use sha2::{Digest, Sha256};
 use std::alloc::Global;
 use std::process::Abort;
@@ -37,6 +39,16 @@ fn are_levels(items: &[Level]) -> bool {
 
 fn is_key(key: &Key60) -> bool {
     HssPublic::read(key).is_some()
+}
+
+fn names(items: &[Level], key: &Key60) -> Result<bool, Fail> {
+    let levels = Levels::of(items).ok_or("other levels")?;
+    Ok(names_levels(&levels, key))
+}
+
+fn capacity_of(items: &[Level]) -> Result<u64, Fail> {
+    let levels = Levels::of(items).ok_or("other levels")?;
+    Ok(levels.capacity())
 }
 
 fn index_of(items: &[Level], sig: &[u8]) -> Result<Option<u64>, Fail> {
@@ -87,6 +99,28 @@ fn levels_are_one_to_three_of_heights_5_and_10(rt: HostRuntime) {
     assert!(rt; are_levels(&[SMALL, TEN, TEN]));
     assert!(rt; !are_levels(&[SMALL, TEN, TEN, SMALL]));
     assert!(rt; !are_levels(&[SMALL, TALL]));
+}
+
+#[test]
+fn levels_sign_2_to_the_sum_of_their_heights(rt: HostRuntime) -> Result<(), Fail> {
+    assert_eq!(rt; capacity_of(&[SMALL])?, 32);
+    assert_eq!(rt; capacity_of(&[SMALL, SMALL, SMALL])?, 32_768);
+    Ok(())
+}
+
+#[test]
+fn a_key_names_its_levels_alone(rt: HostRuntime) -> Result<(), Fail> {
+    for case in &HIERARCHIES {
+        let items = levels_of(rt.alloc(), case.levels)?;
+        let key = Key60::from_hex(case.public)?;
+        assert!(rt; names(&items, &key)?);
+        assert!(rt; !names(&[TEN], &key)?);
+        assert!(rt; !names(&[TEN, TEN, TEN], &key)?);
+        assert!(rt; !names(&[SMALL, SMALL, SMALL], &key)?);
+    }
+    let tall = Key60::from_hex(GIVEN_KEY)?;
+    assert!(rt; !names(&[SMALL], &tall)?);
+    Ok(())
 }
 
 #[test]

@@ -22,7 +22,7 @@ pub capacity_pos : (levels : List Level) → 0 < capacity levels
 unfolding capacity
 capacity_pos levels = pow_pos (sum_by height levels)
 
-can_sign_bound : (level : Level) → CanSign level → height level ≤ 10
+pub can_sign_bound : (level : Level) → CanSign level → height level ≤ 10
 can_sign_bound level (inl e) = omega arith
 can_sign_bound level (inr e) = omega arith
 
@@ -44,6 +44,9 @@ index_fits level below q low h k =
 pub capacity_small : (levels : List Level) → sum_by height levels ≤ 30 → capacity levels ≤ 2 ^ 30
 unfolding capacity
 capacity_small levels h = pow_mono h
+
+pub capacity_bound : (levels : List Level) → IsLevels levels → capacity levels ≤ 1073741824
+capacity_bound levels is = omega (arith, capacity_small levels (IsLevels-small levels is))
 
 -- the leaf on the way to an index
 pub leaf_below : (level : Level) (below : List Level) (index : ℕ) → index < capacity (level ∷ below) → index / capacity below < leaf_count level

@@ -1,4 +1,5 @@
--- The signatures of this project's signer verify, and their leaf numbers spell the index.
+-- The signatures of this project's signer verify, have their length, and their leaf numbers spell the
+-- index; its keys name their levels.
 use Rattle.std.proofs.Common.{◌≡◌, ℕ, ◌+◌, ◌*◌, ◌/◌, ◌%◌, ◌^◌, ◌<◌, ◌≤◌, List, [], ◌∷◌, ◌++◌, length, drop, Some, refl, ap, sym, subst, ◌∙◌, arith, append_assoc, length-append}
 use Rattle.std.proofs.Math.Nat.{div-add-mod'}
 use Rattle.std.proofs.lemmas.List.{drop_at}
@@ -9,12 +10,14 @@ use Rattle.lms_tree.specs.Types.{leaf_count, sig_len, level_at}
 use Rattle.lms_tree.specs.Trees.{TreeKey}
 use Rattle.lms_tree.specs.Verifies.{HasTypes, LmsVerifies}
 use Rattle.lms_tree.specs.Laws.{LmsLaws}
-use Rattle.hss_keys.specs.Levels.{IsLevels, capacity}
+use Rattle.hss_keys.specs.Levels.{IsLevels, below_len, capacity}
 use Rattle.hss_keys.specs.Signing.{child_key, public_of, sig_of, signed_child, below_sig, top_key, hss_public, hss_sig}
+use Rattle.hss_keys.specs.Signers.{hss_sig_len}
+use Rattle.hss_keys.specs.Keys.{NamesLevels}
 use Rattle.hss_keys.specs.Verifies.{VerifiesBelow, HssVerifies, IndexBelow, FlatIndex}
 use Rattle.hss_keys.proofs.PartsRead.{level_at-within}
 use Rattle.hss_keys.proofs.CapacityLaws.{capacity-nil, capacity-cons, capacity_pos, leaf_below}
-use Rattle.hss_keys.proofs.BranchLaws.{child_level, child_named, below_sig-nil}
+use Rattle.hss_keys.proofs.BranchLaws.{child_level, child_named, length-signed_child, below_sig-nil}
 
 pub below_sig-cons : (key : TreeKey) (next : Level) (below : List Level) (index : ℕ) (msg : List ℕ)
     → below_sig key (next ∷ below) index msg ≡ signed_child next key (index / capacity (next ∷ below))
@@ -111,6 +114,20 @@ module _ (words : WordLaws) (lms : LmsLaws) where
       let sum : index ≡ u32_at whole 0 * c + index % c = rw word (sym (div-add-mod' index c)) in
       rw below_sig-cons (index % c, record { room = room sig public rest n len public_len; types = types; known = known }, lower, sum)
 
+  pub signed_len : (below : List Level) (key : TreeKey) (index : ℕ) (msg : List ℕ) → length key.id ≡ 16 → index < capacity (key.level ∷ below)
+      → length (below_sig key below index msg) ≡ below_len key.level below
+  signed_len [] key index msg named h = rw below_sig-nil (sig_len_is key named index (last_leaf key.level index h) msg)
+  signed_len (next ∷ below) key index msg named h =
+      let c = capacity (next ∷ below) in
+      let q = index / c in
+      let child = child_key next key q in
+      let leaf = leaf_below key.level (next ∷ below) index h in
+      let rest = below_sig child below (index % c) msg in
+      let front = length-signed_child lms next key q named leaf in
+      let ih = signed_len below child (index % c) msg (child_named lms next key q) (rest_below key next below index) in
+      let lower : length rest ≡ below_len next below = subst (λ (l : Level). length rest ≡ below_len l below) (child_level next key q) ih in
+      rw below_sig-cons (omega (arith, length-append (signed_child next key q) rest, front, lower))
+
   -- a word and what stands behind it
   module _ (x : ℕ) (rest : List ℕ) (small : x < 2 ^ 32) where
     word_read : u32_at (u32str x ++ rest) 0 ≡ x
@@ -121,6 +138,11 @@ module _ (words : WordLaws) (lms : LmsLaws) where
 
     word_len : 4 ≤ length (u32str x ++ rest)
     word_len = omega (arith, length-append (u32str x) rest, words.word_len x)
+
+  -- the top tree's key in a key
+  key_read : (x : ℕ) (key : TreeKey) → length key.id ≡ 16 → part (u32str x ++ public_of key) 4 56 ≡ public_of key
+  key_read x key named =
+      words.part_behind (u32str x) (public_of key) 4 0 56 (words.word_len x) ∙ words.part_whole (public_of key) 56 (public_len_is key named)
 
   pub hss_verifies : (levels : List Level) (id seed : List ℕ) (index : ℕ) (msg : List ℕ) → IsLevels levels → length id ≡ 16 → index < capacity levels
       → HssVerifies (hss_public levels id seed) (hss_sig levels id seed index msg) msg
@@ -134,8 +156,7 @@ module _ (words : WordLaws) (lms : LmsLaws) where
       let public = public_of key in
       let count = word_read n b fits in
       let total = word_read (length (level ∷ below)) public more in
-      let key_part : part (u32str (length (level ∷ below)) ++ public) 4 56 ≡ public =
-      words.part_behind (u32str (length (level ∷ below))) public 4 0 56 (words.word_len _) ∙ words.part_whole public 56 (public_len_is key named) in
+      let key_part = key_read (length (level ∷ below)) key named in
       record {
         some = rw total (omega arith);
         most = rw total (omega (arith, is.most));
@@ -153,3 +174,33 @@ module _ (words : WordLaws) (lms : LmsLaws) where
       let fits : n < 2 ^ 32 = omega (arith, is.most) in
       let b = below_sig key below index msg in
       (word_len n b fits, word_read n b fits, rw (behind_word n b fits) (signed_index below key index msg named h))
+
+  pub hss_sig-len : (levels : List Level) (id seed : List ℕ) (index : ℕ) (msg : List ℕ) → IsLevels levels → length id ≡ 16 → index < capacity levels
+      → length (hss_sig levels id seed index msg) ≡ hss_sig_len levels
+  hss_sig-len [] id seed index msg is named h = absurd (omega (arith, is.some))
+  hss_sig-len (level ∷ below) id seed index msg is named h =
+      let key = top_key level id seed in
+      let n = length below in
+      omega (arith, length-append (u32str n) (below_sig key below index msg), words.word_len n, signed_len below key index msg named h)
+
+  pub hss_public-len : (levels : List Level) (id seed : List ℕ) → IsLevels levels → length id ≡ 16 → length (hss_public levels id seed) ≡ 60
+  hss_public-len [] id seed is named = absurd (omega (arith, is.some))
+  hss_public-len (level ∷ below) id seed is named =
+      let key = top_key level id seed in
+      let n = length (level ∷ below) in
+      omega (arith, length-append (u32str n) (public_of key), words.word_len n, public_len_is key named)
+
+  pub hss_public-names : (levels : List Level) (id seed : List ℕ) → IsLevels levels → length id ≡ 16 → NamesLevels levels (hss_public levels id seed)
+  hss_public-names [] id seed is named = absurd (omega (arith, is.some))
+  hss_public-names (level ∷ below) id seed is named =
+      let key = top_key level id seed in
+      let n = length (level ∷ below) in
+      let fits : n < 2 ^ 32 = omega (arith, is.most) in
+      let within = level_at-within words (u32str n ++ public_of key) 4 56 (omega arith) in
+      let read = ap (λ (b : List ℕ). level_at b 0) (key_read n key named) in
+      record {
+        some = is.some;
+        whole = hss_public-len (level ∷ below) id seed is named;
+        count = word_read n (public_of key) fits;
+        top = sym within ∙ read ∙ lms.known level id seed named;
+      }

@@ -3,4 +3,5 @@ pub mod PartsRead
 pub mod CapacityLaws
 pub mod BranchLaws
 pub mod HssLaws
+pub mod LengthLaws
 pub mod IndexLaws

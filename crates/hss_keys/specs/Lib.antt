@@ -1,4 +1,5 @@
 pub mod Levels
+pub mod Keys
 pub mod Verifies
 pub mod Signing
 pub mod Branches

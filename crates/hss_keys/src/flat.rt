@@ -70,7 +70,7 @@ fn last_index(level: Level, sig: &[u8]) -> Option<u64>
 }
 
 // The codes of this level stand in `bytes` from byte `at` on.
-fn is_level_at(bytes: &[u8], at: usize, level: Level) -> bool
+pub(crate) fn is_level_at(bytes: &[u8], at: usize, level: Level) -> bool
     requires { at + 8 ≤ length bytes.now }
     ensures { IsTrue result ↔ (level_at bytes.now at ≡ Some level) }
 {

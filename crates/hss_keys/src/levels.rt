@@ -1,6 +1,6 @@
 // Levels of trees.
 
-ghost use Rattle.std.specs.Prelude.{◌≡◌, ◌↔◌, ◌≤◌, List, length, take, All, IsSome, IfSome, IsTrue};
+ghost use Rattle.std.specs.Prelude.{◌≡◌, ◌↔◌, ◌<◌, ◌≤◌, List, length, take, All, IsSome, IfSome, IsTrue};
 ghost use Rattle.lms_tree.specs.declared.types.Level.{Level};
 ghost use Rattle.std.specs.List.{sum_by};
 ghost use Rattle.lms_tree.specs.Types.{height};
@@ -49,6 +49,15 @@ impl Levels {
         ensures small { sum_by height self.now ≤ 30 }
     {
         &self.items[..self.count]
+    }
+
+    /// How many messages a key over these levels signs: 2 to the sum of the heights.
+    #[tactic(auto, using(crate::proofs::CapacityLaws::capacity_pos, crate::proofs::CapacityLaws::capacity_bound))]
+    pub fn capacity(&self) -> u64
+        ensures value { result ≡ capacity self.now }
+        ensures bound { (0 < result) × (result ≤ 1073741824) }
+    {
+        capacity(self.as_slice())
     }
 }
 

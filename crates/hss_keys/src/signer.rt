@@ -2,13 +2,14 @@
 
 ghost use Rattle.std.specs.Prelude.{◌≡◌, ◌+◌, ◌*◌, ◌<◌, ◌≤◌, ◌∷◌, IfOk, OnOk, OnErr, length};
 ghost use Rattle.hss_keys.specs.Levels.{below_len, capacity};
+ghost use Rattle.hss_keys.specs.Keys.{NamesLevels};
 ghost use Rattle.hss_keys.specs.Signing.{hss_public, hss_sig};
 ghost use Rattle.hss_keys.specs.Signers.{IsSigner, SignerKey, hss_sig_len};
 ghost use Rattle.hss_keys.specs.Verifies.{FlatIndex, HssVerifies};
 
 use crate::branch::{Child, grow, regrow, write_below};
 use crate::laws::hss_law;
-use crate::levels::{Levels, capacity};
+use crate::levels::Levels;
 use crate::verifying::Key60;
 use lms_ots::{Hash, put, u32str};
 use lms_tree::{Level, OutOfMemory, Tree, lms_sig_len};
@@ -55,8 +56,10 @@ impl Signer {
 
     /// The public key: the number of levels, and the top tree's key (RFC 8554, 6.1).
     pub fn public(&self) -> Key60
-        ensures { result ≡ hss_public self.now.levels self.now.id self.now.seed }
+        ensures value { result ≡ hss_public self.now.levels self.now.id self.now.seed }
+        ensures names { NamesLevels self.now.levels result }
     {
+        hss_law();
         let mut key = [0; 60];
         let end = put(&mut key, 0, &u32str(self.levels.as_slice().len() as u32));
         put(&mut key, end, &self.top.public());
@@ -65,14 +68,17 @@ impl Signer {
 
     /// How many messages the key signs: 2 to the sum of the heights.
     pub fn capacity(&self) -> u64
-        ensures { result ≡ capacity self.now.levels }
+        ensures value { result ≡ capacity self.now.levels }
+        ensures bound { (0 < result) × (result ≤ 1073741824) }
     {
-        capacity(self.levels.as_slice())
+        self.levels.capacity()
     }
 
     /// The bytes of a signature.
+    #[tactic(auto, using(crate::proofs::LengthLaws::hss_sig_len_bound))]
     pub fn sig_len(&self) -> usize
-        ensures { result ≡ hss_sig_len self.now.levels }
+        ensures value { result ≡ hss_sig_len self.now.levels }
+        ensures bound { result ≤ 26648 }
     {
         let levels = self.levels.as_slice();
         4 + below_len(levels[0], &levels[1..])
