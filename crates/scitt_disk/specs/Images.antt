@@ -46,11 +46,12 @@ ImageNow held image = IsImage held.epoch image
 abbrev pub ImageSince : Held → ℕ → List ℕ → Type 0
 ImageSince held since image = ImageNow held image ⊎ OneHas (take (moment held - since) held.earlier) image
 
--- the second state comes after the first: the epochs that were closed by then are the same, and syncs may have closed
--- more
+-- the second state comes after the first: the epochs that were closed by then are the same, syncs may have closed more,
+-- and what a crash at the first might have left it might have left since
 pub record Continues (old new : Held) : Type 0 where
   pub closed : List Epoch
   pub earlier : new.earlier ≡ closed ++ old.earlier
+  pub kept : (image : List ℕ) → ImageNow old image → ImageSince new (moment old) image
 
 -- from the first state on, up to the second and at both, a crash leaves nothing but what has P
 pub record CrashLeaves (P : List ℕ → Type 0) (old new : Held) : Type 0 where

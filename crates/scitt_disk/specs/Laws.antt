@@ -1,6 +1,6 @@
 use Rattle.std.specs.Prelude.{◌≡◌, ℕ, ◌≤◌, ◌⊎◌, List}
 use Rattle.scitt_disk.specs.Images.{Held, moment, ImageNow, ImageSince, Continues}
-use Rattle.scitt_disk.specs.Changes.{after_refusal, after_sync}
+use Rattle.scitt_disk.specs.Changes.{after_write, after_refusal, after_sync, AfterFailedWrite}
 
 -- after a sync a crash leaves what a read gives and nothing else
 abbrev pub SyncLeavesOneImage : Type 0
@@ -14,7 +14,18 @@ FailureKeepsImages =
 -- where no sync came between, what a crash since the first state might have left it may leave now
 abbrev pub EpochHasAll : Type 0
 EpochHasAll =
-    (old new : Held) → new.earlier ≡ old.earlier → Continues old new × ((image : List ℕ) → ImageSince new (moment old) image → ImageNow new image)
+    (old new : Held) (image : List ℕ) → new.earlier ≡ old.earlier → ImageSince new (moment old) image → ImageNow new image
+
+-- a state comes after itself, the state after a write comes after the one before it, and so it does where the write
+-- failed
+abbrev pub StateGoesOn : Type 0
+StateGoesOn = (held : Held) → Continues held held
+
+abbrev pub WriteGoesOn : Type 0
+WriteGoesOn = (at : ℕ) (bytes : List ℕ) (held : Held) → Continues held (after_write at bytes held)
+
+abbrev pub FailedWriteGoesOn : Type 0
+FailedWriteGoesOn = (at n : ℕ) (old new : Held) → AfterFailedWrite at n old new → Continues old new
 
 -- what a crash since the state before a sync might have left is an image of that state, or what a read gives
 abbrev pub SyncGoesOn : Type 0

@@ -26,10 +26,10 @@ get_or-put old at bytes i within (inr above) =
     grind (arith, places, length-take at old, length-append (take at old) bytes)
 
 -- it is one at first, and stays one through each change
-IsImage-fresh : (bytes : List ℕ) → IsImage (fresh bytes).epoch (fresh bytes).seen
+pub IsImage-fresh : (bytes : List ℕ) → IsImage (fresh bytes).epoch (fresh bytes).seen
 IsImage-fresh bytes = record { least = omega arith; most = omega arith; same = λ i within outside. refl }
 
-IsImage-after_write : (at : ℕ) (bytes : List ℕ) (held : Held) → IsImage held.epoch held.seen → IsImage (after_write at bytes held).epoch (after_write at bytes held).seen
+pub IsImage-after_write : (at : ℕ) (bytes : List ℕ) (held : Held) → IsImage held.epoch held.seen → IsImage (after_write at bytes held).epoch (after_write at bytes held).seen
 IsImage-after_write at bytes held was =
     record {
       least = omega (arith, was.least, length-put_least held.seen at bytes);

@@ -1,5 +1,5 @@
-ghost use Rattle.std.specs.Prelude.{◌≡◌, ◌+◌, ◌-◌, ◌^◌, ◌<◌, ◌≤◌, ◌↔◌, min, true, false, IsTrue, IsErr, IfOk, OnOk, OnErr, length, take, drop};
-ghost use Rattle.scitt_io.specs.Causes.{HasCause};
+ghost use Rattle.std.specs.Prelude.{◌≡◌, ◌+◌, ◌-◌, ◌^◌, ◌<◌, ◌≤◌, ◌↔◌, true, false, IsTrue, IsErr, IfOk, OnOk, OnErr, length, take, drop};
+ghost use Rattle.scitt_io.specs.Causes.{HasCause, raised};
 ghost use Rattle.scitt_disk.specs.Changes.{after_write, after_sync, AfterFailedWrite};
 ghost use Rattle.scitt_disk.specs.Failing.{Advances};
 ghost use Rattle.scitt_disk.specs.Memory.{held_of, plan_of};
@@ -18,13 +18,15 @@ pub struct FuseDisk {
 }
 
 impl FuseDisk {
-    ghost use Rattle.scitt_disk.specs.Fuse.{beneath, passes_of};
+    ghost use Rattle.scitt_disk.specs.Fuse.{beneath, passes_of, faults_of};
 
     /// Lets so many calls pass.
     pub fn new(disk: MemDisk, passes: u32) -> FuseDisk
         ensures disk { beneath result ≡ disk }
         ensures passes { passes_of result ≡ passes }
+        ensures faults { faults_of result ≡ (plan_of disk).faults }
     {
+        let _before = disk.faults();
         FuseDisk {
             disk,
             passes,
@@ -42,7 +44,7 @@ impl FuseDisk {
     // Counts a call; answers whether it is refused.
     fn refuses(&mut self) -> bool
         ensures disk { beneath self.new ≡ beneath self.old }
-        ensures refused { IsTrue result → (self.new.refused ≡ min (self.old.refused + 1) (2 ^ 64 - 1)) }
+        ensures refused { IsTrue result → (self.new.refused ≡ raised self.old.refused) }
         ensures spent { IsTrue result ↔ (passes_of self.old ≡ 0) }
         ensures passed { result ≡ false → (self.new.refused ≡ self.old.refused) }
         ensures passes { passes_of self.new ≡ passes_of self.old - 1 }
@@ -86,6 +88,7 @@ impl Disk for FuseDisk {
         ensures passed_on { 0 < passes_of self.old
             → HasCause (plan_of (beneath self.old)).faults (plan_of (beneath self.new)).faults result }
         ensures passes { passes_of self.new ≡ passes_of self.old - 1 }
+        ensures once { OnErr result (faults_of self.new ≡ raised (faults_of self.old)) }
     {
         if self.refuses() {
             return Err(DiskFault);
@@ -106,6 +109,7 @@ impl Disk for FuseDisk {
         ensures passed_on { 0 < passes_of self.old
             → HasCause (plan_of (beneath self.old)).faults (plan_of (beneath self.new)).faults result }
         ensures passes { passes_of self.new ≡ passes_of self.old - 1 }
+        ensures once { OnErr result (faults_of self.new ≡ raised (faults_of self.old)) }
     {
         if self.refuses() {
             return Err(DiskFault);
@@ -126,6 +130,7 @@ impl Disk for FuseDisk {
         ensures passed_on { 0 < passes_of self.old
             → HasCause (plan_of (beneath self.old)).faults (plan_of (beneath self.new)).faults result }
         ensures passes { passes_of self.new ≡ passes_of self.old - 1 }
+        ensures once { OnErr result (faults_of self.new ≡ raised (faults_of self.old)) }
     {
         if self.refuses() {
             return Err(DiskFault);
@@ -145,6 +150,7 @@ impl Disk for FuseDisk {
         ensures passed_on { 0 < passes_of self.old
             → HasCause (plan_of (beneath self.old)).faults (plan_of (beneath self.new)).faults result }
         ensures passes { passes_of self.new ≡ passes_of self.old - 1 }
+        ensures once { OnErr result (faults_of self.new ≡ raised (faults_of self.old)) }
     {
         if self.refuses() {
             return Err(DiskFault);

@@ -1,4 +1,4 @@
-ghost use Rattle.scitt_disk.specs.Laws.{SyncLeavesOneImage, FailureKeepsImages, EpochHasAll, SyncGoesOn, StretchesJoin, EarlierRunsJoin, MomentsRise};
+ghost use Rattle.scitt_disk.specs.Laws.{SyncLeavesOneImage, FailureKeepsImages, EpochHasAll, StateGoesOn, WriteGoesOn, FailedWriteGoesOn, SyncGoesOn, StretchesJoin, EarlierRunsJoin, MomentsRise};
 
 /// What holds of what every disk holds: after a sync a crash leaves what a read gives and nothing else, and a failed
 /// write takes no image away.
@@ -7,11 +7,15 @@ pub fn image_laws()
     ensures failed { FailureKeepsImages }
 {}
 
-/// What holds of the images since a moment: within an epoch they are the images at its end; a sync adds what a read
-/// gives; those of one stretch of time after another are those of either; those since a moment before a stretch are
-/// those of the time before it and those of the stretch; and moments don't fall.
+/// What holds of the images since a moment: within an epoch they are the images at its end; a state goes on from
+/// itself, and a write, one that failed and a sync go on from the state before; a sync adds what a read gives; those of
+/// one stretch of time after another are those of either; those since a moment before a stretch are those of the time
+/// before it and those of the stretch; and moments don't fall.
 pub fn moment_laws()
     ensures epoch { EpochHasAll }
+    ensures still { StateGoesOn }
+    ensures write { WriteGoesOn }
+    ensures failed { FailedWriteGoesOn }
     ensures sync { SyncGoesOn }
     ensures joined { StretchesJoin }
     ensures earlier { EarlierRunsJoin }

@@ -153,13 +153,15 @@ one_of_three bytes are =
           | inr at ↦ inr (inr (
             length (spelled at.bodies),
             record {
-              six = six;
               bodies = at.bodies;
-              fit = at.fit;
-              tail = at.tail;
-              cut = at.cut;
-              is = at.is;
-              place = refl;
+              after = record {
+                six = six;
+                fit = at.fit;
+                tail = at.tail;
+                cut = at.cut;
+                is = at.is;
+                place = refl;
+              };
             },
           ))
         ]

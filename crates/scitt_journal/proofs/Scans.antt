@@ -67,13 +67,15 @@ finds_end seen gate rest offsets was shut within some left =
 pub short_at : (seen : List ℕ) (gate : ℕ) (offsets : List ℕ) → Scanned seen gate offsets → get_or seen gate 0 ≡ 1 → gate < length seen → 6 ≤ length seen → Cut (drop (gate + 1) seen) → Short seen gate
 short_at seen gate offsets was opened within six cut =
     record {
-      six = six;
       bodies = was.bodies;
-      fit = was.fit;
-      tail = drop (gate + 1) seen;
-      cut = cut;
-      is = split_at seen gate offsets was within ∙ ap (λ first. spelled was.bodies ++ first ∷ drop (gate + 1) seen) opened;
-      place = was.place;
+      after = record {
+        six = six;
+        fit = was.fit;
+        tail = drop (gate + 1) seen;
+        cut = cut;
+        is = split_at seen gate offsets was within ∙ ap (λ first. spelled was.bodies ++ first ∷ drop (gate + 1) seen) opened;
+        place = was.place;
+      };
     }
 
 -- why the walk stops

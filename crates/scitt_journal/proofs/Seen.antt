@@ -1,7 +1,7 @@
 use Rattle.std.proofs.Common.{◌≡◌, ℕ, ◌+◌, ◌^◌, ◌<◌, List, [], ◌∷◌, ◌++◌, length, Result, Ok, Err, OnErr, is_ok, if◌then◌else◌, ap, sym, ◌∙◌, arith}
 use Rattle.scitt_disk.specs.Images.{Held, CrashLeaves}
 use Rattle.scitt_disk.specs.Changes.{after_write, after_sync}
-use Rattle.scitt_journal.specs.Layout.{sized, spelled, starts}
+use Rattle.scitt_journal.specs.Layout.{sized, spelled, starts, RecordsOf}
 use Rattle.scitt_journal.specs.Log.{Log}
 use Rattle.scitt_journal.specs.State.{ShutAfter, AtRest, InDoubt, Closed, Pending, Loaded}
 use Rattle.scitt_journal.specs.Stops.{Finds}
@@ -14,6 +14,12 @@ rest_inside held view log bodies e was = rw e was
 
 pub doubt_inside : {D : Type 0} (held : D → Held) (view log : Log D) (bodies : List (List ℕ)) (body : List ℕ) → view ≡ log → InDoubt held log bodies body → InDoubt held view bodies body
 doubt_inside held view log bodies body e was = rw e was
+
+pub records_inside : {D : Type 0} (held : D → Held) (view log : Log D) (bodies : List (List ℕ)) → view ≡ log → RecordsOf (held log.disk).seen bodies log.rest → RecordsOf (held view.disk).seen bodies view.rest
+records_inside held view log bodies e was = rw e was
+
+pub long_inside : {D : Type 0} (held : D → Held) (view log : Log D) → view ≡ log → log.rest + 1 ≡ length (held log.disk).seen → view.rest + 1 ≡ length (held view.disk).seen
+long_inside held view log e was = rw e was
 
 pub leaves_outside : {D : Type 0} (held : D → Held) (view log : Log D) (new : Held) (P : List ℕ → Type 0) → view ≡ log → CrashLeaves P (held view.disk) new → CrashLeaves P (held log.disk) new
 leaves_outside held view log new P e leaves = rw e at leaves

@@ -1,10 +1,10 @@
-use Rattle.std.proofs.Common.{◌≡◌, ℕ, ◌+◌, ◌^◌, ◌<◌, List, [], ◌∷◌, ◌++◌, length, drop, get_or, refl, ap, sym, ◌∙◌, inl, inr, arith, append_assoc}
+use Rattle.std.proofs.Common.{◌≡◌, ℕ, ◌+◌, ◌-◌, ◌^◌, ◌<◌, List, [], ◌∷◌, ◌++◌, length, drop, get_or, refl, ap, sym, ◌∙◌, inl, inr, arith, append_assoc, length-append, length-drop}
 use Rattle.scitt_disk.specs.Images.{Epoch, Held, IsImage, ImageNow}
 use Rattle.scitt_disk.specs.Changes.{put, with_range, after_write, after_sync, AfterFailedWrite}
-use Rattle.scitt_journal.specs.Layout.{sized, spelled, AllFit, Recovers, OneOf}
+use Rattle.scitt_journal.specs.Layout.{sized, spelled, AllFit, RecordsOf, Recovers, OneOf}
 use Rattle.scitt_journal.specs.State.{ShutAfter, GateBefore, AllFrom, AllAt, Closed, Pending, MayLeave}
 use Rattle.scitt_journal.proofs.Places.{image_behind, image_at, put_behind, put_at}
-use Rattle.scitt_journal.proofs.Gates.{recovers_shut, one_of, opened_is, AllFit_push, length-spelled_push}
+use Rattle.scitt_journal.proofs.Gates.{recovers_shut, one_of, opened_is, AllFit_push, length-sized, length-spelled_push}
 
 -- ---- behind a closed gate
 shut_behind : (epoch : Epoch) (image : List ℕ) (bodies : List (List ℕ)) → ShutAfter bodies epoch.synced → AllFrom (length (spelled bodies) + 1) epoch.written → IsImage epoch image → ShutAfter bodies image
@@ -52,14 +52,17 @@ record_failed held new gate n bodies was failed =
       ranges = elim failed.epoch [ inl same ↦ rw same was.ranges | inr more ↦ rw more (omega arith, was.ranges) ];
     }
 
+record_behind : (bytes : List ℕ) (gate : ℕ) (bodies : List (List ℕ)) (body : List ℕ) → length (spelled bodies) ≡ gate → (was : ShutAfter bodies bytes) → put bytes (gate + 1) (sized body ++ 0 ∷ []) ≡ spelled bodies ++ was.gate ∷ (sized body ++ 0 ∷ drop (length (sized body ++ 0 ∷ [])) was.behind)
+record_behind bytes gate bodies body place was =
+    let record_bytes : List ℕ = sized body ++ 0 ∷ [] in
+    ap (λ all. put all (gate + 1) record_bytes) was.is ∙ put_behind (spelled bodies) was.gate was.behind (gate + 1) record_bytes (omega arith) ∙ ap (λ tail. spelled bodies ++ was.gate ∷ tail) (append_assoc (sized body) (0 ∷ []) (drop (length record_bytes) was.behind))
+
 before_gate : (bytes : List ℕ) (gate : ℕ) (bodies : List (List ℕ)) (body : List ℕ) → length (spelled bodies) ≡ gate → ShutAfter bodies bytes → GateBefore bodies body (put bytes (gate + 1) (sized body ++ 0 ∷ []))
 before_gate bytes gate bodies body place was =
-    let record_bytes : List ℕ = sized body ++ 0 ∷ [] in
-    let rest : List ℕ = drop (length record_bytes) was.behind in
     record {
       gate = was.gate;
-      behind = rest;
-      is = ap (λ all. put all (gate + 1) record_bytes) was.is ∙ put_behind (spelled bodies) was.gate was.behind (gate + 1) record_bytes (omega arith) ∙ ap (λ tail. spelled bodies ++ was.gate ∷ tail) (append_assoc (sized body) (0 ∷ []) rest);
+      behind = drop (length (sized body ++ 0 ∷ [])) was.behind;
+      is = record_behind bytes gate bodies body place was;
     }
 
 pub record_done : (held : Held) (gate : ℕ) (bodies : List (List ℕ)) (body : List ℕ) → length body < 2 ^ 32 → Closed held gate bodies → Pending (after_sync (after_write (gate + 1) (sized body ++ 0 ∷ []) held)) gate bodies body
@@ -132,3 +135,29 @@ gate_closed held gate bodies body was =
       is = put_gate held.seen gate bodies body 0 was.place was.seen;
     } in
     record { fit = was.fit; place = was.place; seen = whole; synced = whole; ranges = tt }
+
+-- ---- the number of bytes behind the last gate, with a record more
+both_written : (bytes : List ℕ) (gate : ℕ) (bodies : List (List ℕ)) (body : List ℕ) → length (spelled bodies) ≡ gate → (was : ShutAfter bodies bytes) → put (put bytes (gate + 1) (sized body ++ 0 ∷ [])) gate (1 ∷ []) ≡ spelled (bodies ++ body ∷ []) ++ 0 ∷ drop (length (sized body ++ 0 ∷ [])) was.behind
+both_written bytes gate bodies body place was =
+    let behind : List ℕ = drop (length (sized body ++ 0 ∷ [])) was.behind in
+    opened_is (put (put bytes (gate + 1) (sized body ++ 0 ∷ [])) gate (1 ∷ [])) bodies body 0 behind (ap (λ all. put all gate (1 ∷ [])) (record_behind bytes gate bodies body place was) ∙ put_at (spelled bodies) was.gate (sized body ++ 0 ∷ behind) gate 1 (sym place))
+
+records_opened : (bytes : List ℕ) (gate rest left : ℕ) (bodies : List (List ℕ)) (body : List ℕ) → AllFit bodies → length body < 2 ^ 32 → length (spelled bodies) ≡ gate → ShutAfter bodies bytes → rest + 1 + gate ≡ length bytes → left ≡ rest - (length body + 5) → RecordsOf (put (put bytes (gate + 1) (sized body ++ 0 ∷ [])) gate (1 ∷ [])) (bodies ++ body ∷ []) left
+records_opened bytes gate rest left bodies body fit fits place was long e =
+    record {
+      some = omega (arith, length-append bodies (body ∷ []));
+      fit = AllFit_push bodies body fit fits;
+      gate = 0;
+      shut = λ e. cc;
+      behind = drop (length (sized body ++ 0 ∷ [])) was.behind;
+      is = both_written bytes gate bodies body place was;
+      left = omega (arith, length-drop (length (sized body ++ 0 ∷ [])) was.behind, length-append (sized body) (0 ∷ []), length-sized body, ap length was.is, length-append (spelled bodies) (was.gate ∷ was.behind));
+    }
+
+pub records_after : (old middle last : Held) (gate rest left : ℕ) (bodies : List (List ℕ)) (body bytes : List ℕ) → Closed old gate bodies → length body < 2 ^ 32 → bytes ≡ sized body ++ 0 ∷ [] → middle ≡ after_sync (after_write (gate + 1) bytes old) → last ≡ after_sync (after_write gate (1 ∷ []) middle) → rest + 1 + gate ≡ length old.seen → left ≡ rest - (length body + 5) → RecordsOf last.seen (bodies ++ body ∷ []) left
+records_after old middle last gate rest left bodies body bytes was fits spelled_so written opened long e =
+    rw (opened, written, spelled_so) (records_opened old.seen gate rest left bodies body was.fit fits was.place was.seen long e)
+
+pub records_long : (bytes : List ℕ) (gate rest : ℕ) (bodies : List (List ℕ)) → length (spelled bodies) ≡ gate → RecordsOf bytes bodies rest → rest + 1 + gate ≡ length bytes
+records_long bytes gate rest bodies place was =
+    omega (arith, ap length was.is, length-append (spelled bodies) (was.gate ∷ was.behind), was.left)

@@ -1,7 +1,7 @@
 use Rattle.std.proofs.Common.{◌≡◌, ◌≢◌, ℕ, ◌^◌, ◌<◌, ◌≤◌, List, [], ◌∷◌, ◌++◌, length, take, drop, get_or, refl, ap, sym, ◌∙◌, inl, inr, arith, append_assoc, length-append}
 use Rattle.std.proofs.lemmas.Nat.{from_be_bytes-to_be_bytes_4}
 use Rattle.std.proofs.lemmas.List.{take_at, drop_at}
-use Rattle.scitt_journal.specs.Layout.{size_bytes, size_in, sized, spelled, AllFit, NoLog, RecordsOf, Short, Cut, Recovers}
+use Rattle.scitt_journal.specs.Layout.{size_bytes, size_in, sized, spelled, AllFit, NoLog, RecordsOf, Short, CutAfter, Cut, Recovers}
 use Rattle.scitt_journal.proofs.Gates.{length-size_bytes, length-sized}
 
 size_in-size_bytes : (n : ℕ) → n < 2 ^ 32 → size_in (size_bytes n) ≡ n
@@ -91,8 +91,9 @@ short_open [] tail = refl
 short_open (body ∷ bodies) tail = refl
 
 pub no_log_not_short : (bytes : List ℕ) → NoLog bytes → (at : ℕ) → Short bytes at → ⊥
-no_log_not_short bytes (inl few) at is = omega (arith, few, is.six)
-no_log_not_short bytes (inr shut) at is = shut (ap (λ list. get_or list 0 0) is.is ∙ short_open is.bodies is.tail)
+no_log_not_short bytes (inl few) at is = omega (arith, few, is.after.six)
+no_log_not_short bytes (inr shut) at is =
+    shut (ap (λ list. get_or list 0 0) is.after.is ∙ short_open is.bodies is.after.tail)
 
 -- a whole record isn't cut
 whole_not_cut : (body tail : List ℕ) (gate : ℕ) (more : List ℕ) → length body < 2 ^ 32 → tail ≡ sized body ++ gate ∷ more → Cut tail → ⊥
@@ -132,7 +133,7 @@ pub short_no_records : (bytes : List ℕ) (at : ℕ) → Short bytes at → (bod
 short_no_records bytes at is bodies (inl none) = no_log_not_short bytes none.0 at is
 short_no_records bytes at is bodies (inr some) =
     let has = some.1 in
-    shut_not_short bodies is.bodies has.gate has.behind is.tail has.shut has.fit is.fit is.cut (sym has.is ∙ is.is)
+    shut_not_short bodies is.bodies has.gate has.behind is.after.tail has.shut has.fit is.after.fit is.after.cut (sym has.is ∙ is.after.is)
 
 same_place : (a b : List (List ℕ)) (x y : List ℕ) → AllFit a → AllFit b → Cut x → Cut y → spelled a ++ 1 ∷ x ≡ spelled b ++ 1 ∷ y → a ≡ b
 same_place [] [] x y fit_a fit_b cut_x cut_y e = refl
@@ -144,6 +145,10 @@ same_place (one ∷ a) (two ∷ b) x y fit_a fit_b cut_x cut_y e =
     let rests = rest_of 1 1 (sized one ++ (spelled a ++ 1 ∷ x)) (sized two ++ (spelled b ++ 1 ∷ y)) (sym (opened_as one a (1 ∷ x)) ∙ e ∙ opened_as two b (1 ∷ y)) in
     ap (λ first. first ∷ a) (same_body one two _ _ fit_a.0 fit_b.0 rests) ∙ ap (λ others. two ∷ others) (same_place a b x y fit_a.1 fit_b.1 cut_x cut_y (same_tail one two _ _ fit_a.0 fit_b.0 rests))
 
+pub cut_unique : (bytes : List ℕ) (bodies others : List (List ℕ)) (at other : ℕ) → CutAfter bytes bodies at → CutAfter bytes others other → (bodies ≡ others) × (at ≡ other)
+cut_unique bytes bodies others at other one two =
+    let same : bodies ≡ others = same_place bodies others one.tail two.tail one.fit two.fit one.cut two.cut (sym one.is ∙ two.is) in
+    (same, sym one.place ∙ ap (λ list. length (spelled list)) same ∙ two.place)
+
 pub short_unique : (bytes : List ℕ) (at other : ℕ) → Short bytes at → Short bytes other → at ≡ other
-short_unique bytes at other one two =
-    sym one.place ∙ ap (λ list. length (spelled list)) (same_place one.bodies two.bodies one.tail two.tail one.fit two.fit one.cut two.cut (sym one.is ∙ two.is)) ∙ two.place
+short_unique bytes at other one two = (cut_unique bytes one.bodies two.bodies at other one.after two.after).1

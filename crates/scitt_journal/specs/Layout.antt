@@ -46,15 +46,19 @@ pub record RecordsOf (bytes : List ℕ) (bodies : List (List ℕ)) (rest : ℕ) 
 abbrev pub Cut : List ℕ → Type 0
 Cut tail = (length tail < 4) ⊎ (length tail ≤ 4 + size_in (take 4 tail))
 
--- a file whose first open gate with a record that passes the end stands at this offset
-pub record Short (bytes : List ℕ) (at : ℕ) : Type 0 where
+-- a file of these records, and behind them, at this offset, an open gate with a record that passes the end
+pub record CutAfter (bytes : List ℕ) (bodies : List (List ℕ)) (at : ℕ) : Type 0 where
   pub six : 6 ≤ length bytes
-  pub bodies : List (List ℕ)
   pub fit : AllFit bodies
   pub tail : List ℕ
   pub cut : Cut tail
   pub is : bytes ≡ spelled bodies ++ 1 ∷ tail
   pub place : length (spelled bodies) ≡ at
+
+-- a file whose first open gate with a record that passes the end stands at this offset
+pub record Short (bytes : List ℕ) (at : ℕ) : Type 0 where
+  pub bodies : List (List ℕ)
+  pub after : CutAfter bytes bodies at
 
 -- what is recovered from an image is exactly this list; it is empty where there is no log
 abbrev pub Recovers : List ℕ → List (List ℕ) → Type 0

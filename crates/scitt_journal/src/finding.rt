@@ -156,6 +156,8 @@ pub fn prepare<D: Disk>(alloc: Global, disk: &mut D, len: usize) -> Result<Prepa
     ensures closed { OnOk result (IsTrue D.tells → Closed (D.held disk.new) 0 []) }
     ensures rest { IfOk result (λ prepared. IsTrue D.tells
         → prepared.rest + 1 ≡ max 1 (length (D.held disk.old).seen)) }
+    ensures left { IfOk result (λ prepared. IsTrue D.tells
+        → prepared.rest + 1 ≡ length (D.held disk.new).seen) }
     ensures synced { OnOk result (IsTrue D.tells
         → moment (D.held disk.old) < moment (D.held disk.new)) }
     ensures any_moment { IsTrue D.tells → NoLog (D.held disk.old).seen
@@ -187,6 +189,8 @@ fn begin<D: Disk>(disk: &mut D) -> Result<u64, CreateStop>
     ensures closed { OnOk result (IsTrue D.tells → Closed (D.held disk.new) 0 []) }
     ensures rest { IfOk result (λ rest. IsTrue D.tells
         → rest + 1 ≡ max 1 (length (D.held disk.old).seen)) }
+    ensures left { IfOk result (λ rest. IsTrue D.tells
+        → rest + 1 ≡ length (D.held disk.new).seen) }
     ensures synced { OnOk result (IsTrue D.tells
         → moment (D.held disk.old) < moment (D.held disk.new)) }
     ensures any_moment { IsTrue D.tells → NoLog (D.held disk.old).seen

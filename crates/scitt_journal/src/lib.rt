@@ -8,6 +8,6 @@ mod record;
 mod steps;
 mod stops;
 
-pub use laws::journal_laws;
+pub use laws::{crash_laws, journal_laws};
 pub use record::Journal;
 pub use stops::{BodyStop, CreateStop, LoadStop, Refused};

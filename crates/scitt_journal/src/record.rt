@@ -2,7 +2,7 @@ ghost use Rattle.std.specs.Prelude.{◌≡◌, ℕ, ◌+◌, ◌-◌, ◌≤◌,
 ghost use Rattle.scitt_io.specs.Causes.{HasCause, Rose};
 ghost use Rattle.scitt_disk.specs.Images.{CrashLeaves, ImageNow, moment};
 ghost use Rattle.scitt_disk.specs.Changes.{after_sync};
-ghost use Rattle.scitt_journal.specs.Layout.{NoLog, Recovers, OneOf};
+ghost use Rattle.scitt_journal.specs.Layout.{NoLog, RecordsOf, Recovers, OneOf};
 ghost use Rattle.scitt_journal.specs.State.{AtRest, InDoubt, Loaded};
 ghost use Rattle.scitt_journal.specs.Stops.{ExplainsLoad, ExplainsCreate, ExplainsBody};
 
@@ -73,6 +73,9 @@ impl<D: Disk> Journal<D> {
         ensures rest { IfOk result (λ journal. IsTrue D.tells
             → journal.rest ≡ max 1 (length (D.held disk).seen) - 1 - (length body.now + 5)) }
         ensures room { IfOk result (λ journal. journal.room ≡ length body.now) }
+        ensures rest_is { IfOk result (λ journal. IsTrue D.tells
+            → RecordsOf (D.held journal.disk).seen (body.now ∷ []) journal.rest) }
+        ensures count { IfOk result (λ journal. journal.count ≡ 1) }
 
         ensures stops { IfErr result (λ refused. ExplainsCreate
             (IsTrue D.tells) (D.held disk).seen
@@ -201,7 +204,8 @@ impl<D: Disk> Journal<D> {
         offsets.len() as u64
     }
 
-    /// The number of bytes after the gate that ends the records.
+    /// The number of bytes after the gate that ends the records. After a failed `append` it is the number from before,
+    /// while the file may be longer; so it is the file's only as long as no `append` has failed.
     pub fn rest(&self) -> u64
         ensures { result ≡ self.now.rest }
     {
@@ -268,7 +272,8 @@ impl<D: Disk> Journal<D> {
     /// The body has 1 to 16,777,216 bytes and fits in `room`; no repair is needed, a place is left, and there are
     /// fewer than 2,147,483,648 records. At `Ok` a crash leaves the new list. At any moment of the call a crash
     /// leaves the records before it, or those with the new one. `DiskFault` where the disk's count of faults rose; the
-    /// records are as before then, and a repair is needed exactly where the write of the gate was begun.
+    /// records are as before then, and a repair is needed exactly where the write of the gate was begun. At `Ok` the rest is that of
+    /// the file, if it was so before.
     pub fn append(&mut self, body: &[u8]) -> Result<(), DiskFault>
         requires ready { self.old.needs_repair ≡ false }
         requires some { 0 < length body.now }
@@ -297,6 +302,14 @@ impl<D: Disk> Journal<D> {
         ensures ready { OnOk result (self.new.needs_repair ≡ false) }
         ensures count { self.new.count ≡ (if is_ok result then self.old.count + 1 else self.old.count) }
         ensures rest { OnOk result (self.new.rest ≡ self.old.rest - (length body.now + 5)) }
+        ensures rest_is { OnOk result ((bodies : List (List ℕ)) → IsTrue D.tells
+            → RecordsOf (D.held self.old.disk).seen bodies self.old.rest
+            → AtRest D.held self.old bodies
+            → RecordsOf (D.held self.new.disk).seen (bodies ++ body.now ∷ []) self.new.rest) }
+        ensures first_rest { OnOk result (IsTrue D.tells
+            → self.old.rest + 1 ≡ length (D.held self.old.disk).seen
+            → AtRest D.held self.old []
+            → RecordsOf (D.held self.new.disk).seen (body.now ∷ []) self.new.rest) }
         ensures room { self.new.room ≡ self.old.room }
         ensures places { OnOk result (self.new.places + 1 ≡ self.old.places) }
         ensures kept { OnErr result (self.new

@@ -1,6 +1,5 @@
-use Rattle.scitt_journal.proofs.Unique.{records_unique, no_log_no_records, no_log_not_short, short_no_records, short_unique}
+use Rattle.scitt_journal.proofs.Unique.{records_unique, no_log_no_records, no_log_not_short, short_no_records, short_unique, cut_unique}
 use Rattle.scitt_journal.proofs.OneOfThree.{one_of_three}
-use Rattle.scitt_journal.proofs.Stages.{closed_now, pending_now}
 use Rattle.scitt_journal.proofs.laws.journal_laws.Goals as goal
 
 pub returns : goal.returns
@@ -11,6 +10,5 @@ returns c =
       no_log = λ bytes none. (no_log_no_records bytes none, no_log_not_short bytes none);
       short = short_no_records;
       short_at = short_unique;
-      at_rest = closed_now;
-      in_doubt = pending_now;
+      short_after = cut_unique;
     }

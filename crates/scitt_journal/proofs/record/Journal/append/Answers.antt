@@ -2,8 +2,8 @@ use Rattle.std.proofs.Common.{◌≡◌, ◌+◌, ◌++◌, ◌∷◌, [], lengt
 use Rattle.scitt_journal.proofs.Stretches.{leaves_then, leaves_weaker}
 use Rattle.scitt_journal.specs.Layout.{OneOf, starts}
 use Rattle.scitt_journal.specs.State.{Closed, MayLeave}
-use Rattle.scitt_journal.proofs.Stages.{closed_now, record_may_leave, record_failed, gate_may_leave, gate_failed, gate_opened}
-use Rattle.scitt_journal.proofs.Seen.{rest_inside, leaves_outside, on_err, pending_after, offsets_after, count_after}
+use Rattle.scitt_journal.proofs.Stages.{closed_now, record_may_leave, record_failed, gate_may_leave, gate_failed, gate_opened, records_after, records_long}
+use Rattle.scitt_journal.proofs.Seen.{rest_inside, records_inside, long_inside, leaves_outside, on_err, pending_after, offsets_after, count_after}
 use Rattle.scitt_journal.proofs.record.Journal.append.Goals as goal
 
 pub returns-in_err-write_and_sync-clause-any_moment :
@@ -77,3 +77,16 @@ returns-clause-sure g c = λ bodies tells was image now.
     let pending = pending_after (held c.self.inside.disk) (held c.write_and_sync.new.disk) c.self.inside.gate bodies body c.deref.result.now (c.deref.ensures.value ∙ c.fill.ensures.items) (c.in_ok-write_and_sync.ensures.done tells) (omega arith) inside.closed in
     let closed : Closed (held c.write_and_sync-2.new.disk) (c.self.inside.gate + (length body + 5)) (bodies ++ body ∷ []) = rw (c.in_ok-write_and_sync-2.ensures.done tells) (gate_opened (held c.write_and_sync.new.disk) c.self.inside.gate bodies body pending) in
     closed_now _ _ _ image closed now
+
+pub returns-clause-rest_is : goal.returns-clause-rest_is
+returns-clause-rest_is g c = λ bodies tells records was.
+    let held = g.D.Disk.held in
+    let inside = rest_inside held _ _ bodies c.self.view_is was in
+    records_after (held c.self.inside.disk) (held c.write_and_sync.new.disk) (held c.write_and_sync-2.new.disk) c.self.inside.gate c.self.inside.rest _ bodies c.args.body.now c.deref.result.now inside.closed (omega arith) (c.deref.ensures.value ∙ c.fill.ensures.items) (c.in_ok-write_and_sync.ensures.done tells) (c.in_ok-write_and_sync-2.ensures.done tells) (records_long _ _ _ bodies inside.closed.place (records_inside held _ _ bodies c.self.view_is records)) c.saturating_sub-self-inside.ensures
+
+pub returns-clause-first_rest : goal.returns-clause-first_rest
+returns-clause-first_rest g c = λ tells long was.
+    let held = g.D.Disk.held in
+    let inside = rest_inside held _ _ [] c.self.view_is was in
+    let left = long_inside held _ _ c.self.view_is long in
+    records_after (held c.self.inside.disk) (held c.write_and_sync.new.disk) (held c.write_and_sync-2.new.disk) c.self.inside.gate c.self.inside.rest _ [] c.args.body.now c.deref.result.now inside.closed (omega arith) (c.deref.ensures.value ∙ c.fill.ensures.items) (c.in_ok-write_and_sync.ensures.done tells) (c.in_ok-write_and_sync-2.ensures.done tells) (omega (arith, left, inside.closed.place)) c.saturating_sub-self-inside.ensures
