@@ -62,15 +62,15 @@ fn a_new_file_stands_in_a_folder_of_its_own(rt: HostRuntime) -> Result<(), Fail>
 #[test]
 fn a_file_whose_name_is_gone_has_no_folder_to_sync(rt: HostRuntime) -> Result<(), Fail> {
     let alloc = rt.alloc();
-    fs::create_dir(&rt, "store")?;
-    let mut disk = FileDisk::new(rt.clone()?, String::from_str(alloc, "store/journal")?);
+    fs::create_dir(&rt, "moving")?;
+    let mut disk = FileDisk::new(rt.clone()?, String::from_str(alloc, "moving/journal")?);
     assert!(rt; disk.write_at(0, &[1, 2]).is_ok());
-    fs::rename(&rt, "store/journal", "store/moved")?;
+    fs::rename(&rt, "moving/journal", "moving/moved")?;
     assert!(rt; disk.sync().is_err(), "the name isn't found");
     assert_eq!(rt; disk.faults(), 1);
-    fs::rename(&rt, "store/moved", "store/journal")?;
+    fs::rename(&rt, "moving/moved", "moving/journal")?;
     assert!(rt; disk.sync().is_ok(), "the folder is synced now");
-    fs::rename(&rt, "store/journal", "store/moved")?;
+    fs::rename(&rt, "moving/journal", "moving/moved")?;
     assert!(rt; disk.sync().is_ok(), "it is synced once");
     assert_eq!(rt; disk.faults(), 1);
     Ok(())
