@@ -30,7 +30,8 @@ pub fn encode_into(item: &Item, buf: &mut [u8])
     let _end = put_item(Grammar::Strict, MOST_CONTAINERS, item, buf, 0);
 }
 
-/// The strict bytes of the item. `NotStrict` comes exactly where `encoded_len` is `None`.
+/// The strict bytes of the item. `NotStrict` comes exactly where `encoded_len` is `None`; `OutOfMemory`, only where it is a number,
+/// where memory ran out.
 pub fn encode(alloc: Global, item: &Item) -> Result<Bytes, EncodeStop>
     ensures { Encoded item.now result }
 {

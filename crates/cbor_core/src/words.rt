@@ -55,6 +55,6 @@ pub enum DecodeStop {
 pub enum EncodeStop {
     /// No strict bytes spell the item, or more than a buffer can hold.
     NotStrict,
-    /// Memory for the bytes ran out. Strict bytes spell the item.
+    /// Memory ran out.
     OutOfMemory,
 }

@@ -68,9 +68,9 @@ fn message(parts: Parts, entries: Items<(Item, Item)>) -> Sign1
 /// Reads bytes as one message in the wide grammar, leaving none over.
 ///
 /// These steps are tried in turn, and the first that fails is the refusal. `Cbor(fault)`: reading the bytes as one item.
-/// `NotSign1`: finding an array of four in it, with tag 18 or none, whose parts are a string of bytes, a map with labels for keys, a
-/// string of bytes or nil, and a string of bytes (RFC 9052, 4.2 and 1.5). `Protected(fault)`: reading what stands in the first
-/// string, unless it has no bytes; places are counted from the string's start. `NotSign1`: finding a map with labels for keys there.
+/// `NotSign1`: finding an array of four in it, with tag 18 or none, whose parts are a byte string, a map with labels for keys, a
+/// byte string or nil, and a byte string (RFC 9052, 4.2 and 1.5). `Protected(fault)`: reading what stands in the first
+/// byte string, unless it is empty; places are counted from the string's start. `NotSign1`: finding a map with labels for keys there.
 /// Then each protected entry and after them each unprotected one: `DupLabel`, both maps have its label (RFC 9052, 3);
 /// `BadHeader`, its value isn't what the label wants (RFC 9052, 3.1), or receipts are protected. Last `BadCrit`: crit is
 /// unprotected or empty, or one of its labels isn't understood or isn't among the protected ones (RFC 9052, 3.1).

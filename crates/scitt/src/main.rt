@@ -1,6 +1,8 @@
 //! The program `scitt`: its words, real files and standard output, handed to `run_tool`.
 #![tactic(auto)]
 
+ghost use Rattle.std.specs.Prelude.{◌≡◌, ◌⊎◌, IfErr};
+
 use scitt_io::{FileFolder, StdSink, Words};
 use scitt_tool::{Status, run_tool};
 use std::env;
@@ -26,7 +28,9 @@ fn main(rt: HostRuntime) -> ExitCode {
 }
 
 /// The words behind the program's name, else the status to end with.
-fn words(rt: &HostRuntime) -> Result<Words, Status> {
+fn words(rt: &HostRuntime) -> Result<Words, Status>
+    ensures { IfErr result (λ status. (status ≡ 2) ⊎ (status ≡ 5)) }
+{
     let args = env::args(rt).map_err(|error| match error.kind() {
         ErrorKind::OutOfMemory => NO_MEMORY,
         _ => WORDS_REFUSED,
