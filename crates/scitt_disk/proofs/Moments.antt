@@ -1,7 +1,8 @@
 use Rattle.std.proofs.Common.{◌≡◌, ℕ, ◌+◌, ◌-◌, suc, ◌≤◌, ◌⊎◌, List, [], ◌∷◌, ◌++◌, length, take, refl, ap, sym, ◌∙◌, inl, inr, arith, append_assoc, length-append}
 use Rattle.std.proofs.lemmas.List.{ext_get_or, take_at}
 use Rattle.scitt_disk.specs.Images.{Epoch, Held, IsImage, OneHas, moment, ImageNow, ImageSince, Continues}
-use Rattle.scitt_disk.specs.Changes.{with_range, after_write, after_sync, AfterFailedWrite}
+use Rattle.scitt_disk.specs.SeenIsImage.{IsImage-fresh, IsImage-after_write}
+use Rattle.scitt_disk.specs.Changes.{fresh, with_range, after_write, after_sync, AfterFailedWrite}
 
 -- an image stays one with a range more
 pub image_with_range : (at n : ℕ) (epoch : Epoch) (image : List ℕ) → IsImage epoch image → IsImage (with_range at n epoch) image
@@ -104,6 +105,15 @@ continues_write at bytes held =
       closed = [];
       earlier = refl;
       kept = λ image now. inl (image_with_range at (length bytes) held.epoch image now);
+    }
+
+-- what a write leaves, one that failed may leave too
+pub wrote_as_failed : (at : ℕ) (bytes : List ℕ) (old : Held) → AfterFailedWrite at (length bytes) old (after_write at bytes old)
+wrote_as_failed at bytes old =
+    record {
+      epoch = inr refl;
+      earlier = refl;
+      seen = IsImage-after_write at bytes (fresh old.seen) (IsImage-fresh old.seen);
     }
 
 image_kept : (at n : ℕ) (old new : Held) (image : List ℕ) → AfterFailedWrite at n old new → ImageNow old image → ImageNow new image

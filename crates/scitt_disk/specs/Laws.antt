@@ -1,4 +1,4 @@
-use Rattle.std.specs.Prelude.{◌≡◌, ℕ, ◌≤◌, ◌⊎◌, List}
+use Rattle.std.specs.Prelude.{◌≡◌, ℕ, ◌≤◌, ◌⊎◌, List, length}
 use Rattle.scitt_disk.specs.Images.{Held, moment, ImageNow, ImageSince, Continues}
 use Rattle.scitt_disk.specs.Changes.{after_write, after_refusal, after_sync, AfterFailedWrite}
 
@@ -10,6 +10,10 @@ SyncLeavesOneImage = (held : Held) (image : List ℕ) → ImageNow (after_sync h
 abbrev pub FailureKeepsImages : Type 0
 FailureKeepsImages =
     (at n : ℕ) (held : Held) (image : List ℕ) → ImageNow held image → ImageNow (after_refusal at n held) image
+
+-- what a write leaves, one that failed may leave too
+abbrev pub FailureMayWrite : Type 0
+FailureMayWrite = (at : ℕ) (bytes : List ℕ) (held : Held) → AfterFailedWrite at (length bytes) held (after_write at bytes held)
 
 -- where no sync came between, what a crash since the first state might have left it may leave now
 abbrev pub EpochHasAll : Type 0

@@ -1,10 +1,11 @@
-ghost use Rattle.scitt_disk.specs.Laws.{SyncLeavesOneImage, FailureKeepsImages, EpochHasAll, StateGoesOn, WriteGoesOn, FailedWriteGoesOn, SyncGoesOn, StretchesJoin, EarlierRunsJoin, MomentsRise};
+ghost use Rattle.scitt_disk.specs.Laws.{SyncLeavesOneImage, FailureKeepsImages, FailureMayWrite, EpochHasAll, StateGoesOn, WriteGoesOn, FailedWriteGoesOn, SyncGoesOn, StretchesJoin, EarlierRunsJoin, MomentsRise};
 
-/// What holds of what every disk holds: after a sync a crash leaves what a read gives and nothing else, and a failed
-/// write takes no image away.
+/// What holds of what every disk holds: after a sync a crash leaves what a read gives and nothing else, a failed
+/// write takes no image away, and it may leave all that one which succeeds leaves.
 pub fn image_laws()
     ensures synced { SyncLeavesOneImage }
     ensures failed { FailureKeepsImages }
+    ensures wrote { FailureMayWrite }
 {}
 
 /// What holds of the images since a moment: within an epoch they are the images at its end; a state goes on from

@@ -1,8 +1,7 @@
 use Rattle.std.proofs.Common.{◌≡◌, ℕ, List, length, Result, Ok, Err, OnOk, OnErr, refl, inl, inr}
 use Rattle.scitt_disk.specs.Images.{Held, CrashLeaves}
-use Rattle.scitt_disk.specs.Changes.{fresh, after_write, after_sync, AfterFailedWrite}
-use Rattle.scitt_disk.specs.SeenIsImage.{IsImage-fresh, IsImage-after_write}
-use Rattle.scitt_disk.specs.Laws.{FailureKeepsImages, EpochHasAll, WriteGoesOn, FailedWriteGoesOn, SyncGoesOn, StretchesJoin}
+use Rattle.scitt_disk.specs.Changes.{after_write, after_sync, AfterFailedWrite}
+use Rattle.scitt_disk.specs.Laws.{FailureKeepsImages, FailureMayWrite, EpochHasAll, WriteGoesOn, FailedWriteGoesOn, SyncGoesOn, StretchesJoin}
 use Rattle.scitt_journal.specs.State.{MayLeave}
 
 -- a weaker fact of each image
@@ -55,15 +54,7 @@ failed_leaves epoch goes_on keeps at bytes old new failed =
     }
 
 -- a write whose sync failed is one that failed
-wrote_as_failed : (at : ℕ) (bytes : List ℕ) (old : Held) → AfterFailedWrite at (length bytes) old (after_write at bytes old)
-wrote_as_failed at bytes old =
-    record {
-      epoch = inr refl;
-      earlier = refl;
-      seen = IsImage-after_write at bytes (fresh old.seen) (IsImage-fresh old.seen);
-    }
-
-pub unsynced_as_failed : {T E : Type 0} (Tells : Type 0) (at : ℕ) (bytes : List ℕ) (old middle new : Held) (answer : Result T E) → (Tells → middle ≡ after_write at bytes old) → OnErr answer (Tells → new ≡ middle) → OnErr answer (Tells → AfterFailedWrite at (length bytes) old new)
-unsynced_as_failed Tells at bytes old middle new (Ok value) written failed = tt
-unsynced_as_failed Tells at bytes old middle new (Err fault) written failed = λ tells.
-    rw (failed tells, written tells) (wrote_as_failed at bytes old)
+pub unsynced_as_failed : {T E : Type 0} (Tells : Type 0) → FailureMayWrite → (at : ℕ) (bytes : List ℕ) (old middle new : Held) (answer : Result T E) → (Tells → middle ≡ after_write at bytes old) → OnErr answer (Tells → new ≡ middle) → OnErr answer (Tells → AfterFailedWrite at (length bytes) old new)
+unsynced_as_failed Tells wrote at bytes old middle new (Ok value) written failed = tt
+unsynced_as_failed Tells wrote at bytes old middle new (Err fault) written failed = λ tells.
+    rw (failed tells, written tells) (wrote at bytes old)

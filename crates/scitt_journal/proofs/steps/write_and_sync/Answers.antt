@@ -15,4 +15,4 @@ returns-clause-any_moment g c = λ tells.
 pub returns-clause-failed : goal.returns-clause-failed
 returns-clause-failed g c =
     let held = g.D.Disk.held in
-    unsynced_as_failed (IsTrue g.D.Disk.tells) c.args.at c.args.bytes.now (held c.args.disk.now) (held c.write_at.new.self) (held c.sync.new.self) c.sync.result c.in_ok-write_at.ensures.written c.sync.ensures.failed
+    unsynced_as_failed (IsTrue g.D.Disk.tells) c.image_laws.ensures.wrote c.args.at c.args.bytes.now (held c.args.disk.now) (held c.write_at.new.self) (held c.sync.new.self) c.sync.result c.in_ok-write_at.ensures.written c.sync.ensures.failed
