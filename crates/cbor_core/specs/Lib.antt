@@ -9,3 +9,6 @@ pub mod Reading
 pub mod Decoding
 pub mod Encoding
 pub mod Marks
+pub mod Exact
+pub mod Fitting
+pub mod Items

@@ -5,6 +5,7 @@ mod comparing;
 mod decoding;
 mod encoding;
 mod heads;
+mod items;
 mod laws;
 mod limits;
 mod marks;
@@ -18,12 +19,16 @@ mod tree;
 mod words;
 mod writing;
 
-pub use decoding::{decode_strict, decode_strict_all, decode_wide, decode_wide_all};
+pub use decoding::{decode_strict, decode_strict_all, decode_wide, decode_wide_all, strict_of};
 pub use encoding::{encode, encode_into, encoded_len};
+pub use items::{
+    array_of, bytes_of, is_nil, is_nint, is_uint, map_of, nint_of, tag_of, text_of, uint_of,
+};
 pub use laws::{
     bytes_have_one_answer, keys_are_compared_as_items, spelled_is_decoded,
-    spellings_are_prefix_free, strict_item_is_exact, strict_spelling_is_unique,
-    whole_bytes_have_one_answer,
+    spellings_are_prefix_free, strict_is_wide, strict_item_by_kind, strict_item_is_exact,
+    strict_items_are_spelled, strict_len_by_kind, strict_spelling_is_unique, strict_text_is_exact,
+    whole_bytes_have_one_answer, wide_item_is_exact,
 };
 pub use order::below;
 pub use same::{has_key, same_item};
