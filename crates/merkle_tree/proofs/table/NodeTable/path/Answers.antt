@@ -1,0 +1,6 @@
+use Rattle.std.proofs.Common.{rules, take}
+use Rattle.merkle_tree.proofs.Leading.{path_of_entries}
+use Rattle.merkle_tree.proofs.table.NodeTable.path.Goals as goal
+
+pub returns-clause-of_entries : goal.returns-clause-of_entries
+returns-clause-of_entries c entries are = path_of_entries c.args.index c.put_path.new.path (take c.args.size c.args.self.now.leaves) entries (search rules) are
