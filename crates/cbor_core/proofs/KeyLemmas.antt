@@ -19,7 +19,7 @@ pub strict_only : (g : Grammar) → is_strict g ≡ true → g ≡ Strict
 strict_only Strict e = refl
 strict_only Wide e = absurd cc
 
-unique : (room : ℕ) (item : Item) (s t : List ℕ) → SpellsIn Strict room item s → SpellsIn Strict room item t → s ≡ t
+pub unique : (room : ℕ) (item : Item) (s t : List ℕ) → SpellsIn Strict room item s → SpellsIn Strict room item t → s ≡ t
 unique room item s t p q = some_is s t (sym (spell-is room item s p) ∙ spell-is room item t q)
 
 -- nothing is before the first key

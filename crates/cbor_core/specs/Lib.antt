@@ -8,7 +8,8 @@ pub mod Faults
 pub mod Reading
 pub mod Decoding
 pub mod Encoding
-pub mod Marks
+pub mod Order
 pub mod Exact
 pub mod Fitting
 pub mod Items
+pub mod Keys

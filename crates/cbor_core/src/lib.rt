@@ -8,10 +8,10 @@ mod heads;
 mod items;
 mod laws;
 mod limits;
-mod marks;
 mod measuring;
 mod node_heads;
 mod order;
+mod places;
 mod reading;
 mod same;
 mod strings;
@@ -25,7 +25,7 @@ pub use items::{
     array_of, bytes_of, is_nil, is_nint, is_uint, map_of, nint_of, tag_of, text_of, uint_of,
 };
 pub use laws::{
-    bytes_have_one_answer, keys_are_compared_as_items, spelled_is_decoded,
+    bytes_have_one_answer, keys_are_compared_as_items, map_keys_by_pairs, spelled_is_decoded,
     spellings_are_prefix_free, strict_is_wide, strict_item_by_kind, strict_item_is_exact,
     strict_items_are_spelled, strict_len_by_kind, strict_spelling_is_unique, strict_text_is_exact,
     whole_bytes_have_one_answer, wide_item_is_exact,
