@@ -6,7 +6,7 @@ use Rattle.std.proofs.lemmas.Bool.{false≢true, and_from, cases_lt, lt-ltb, le-
 use Rattle.std.proofs.lemmas.List.{append-nil, take_all, take-take, drop-take, length-take-le, get_or-take, get_or-drop, length-map, take-map, drop-map, reverse-append}
 use Rattle.merkle_tree.specs.Mth.{leaf_hash, node_hash, split_point, root_within, mth, tree_root}
 use Rattle.merkle_tree.specs.Paths.{path_within, path_of, tree_path, root_down, root_from}
-use Rattle.merkle_tree.specs.Consistency.{unless_whole, sub_within, proof_of, tree_sub, tree_proof, at_one_tree, roots_down, roots_from}
+use Rattle.merkle_tree.specs.Consistency.{unless_whole, sub_within, proof_of, tree_sub, tree_proof, at_one_tree, roots_down, roots_from, sub_of}
 use Rattle.merkle_tree.proofs.Splits.{Splits, split_point-splits}
 use Rattle.merkle_tree.proofs.Roots.{root_of, root_of-node, root_within-levels, root_within-map, node_of}
 use Rattle.merkle_tree.proofs.Collisions.{split_point-same}
@@ -335,7 +335,7 @@ sub_within-map leaf (suc levels) m whole (d ∷ e ∷ rest) =
     (push_same _ _ _ _ (sub_within-map leaf levels (m - k) false (drop k all)) (root_within-map leaf levels (take k all))))
 
 pub proof_of-map : (m : ℕ) (entries : List (List ℕ)) → proof_of m entries ≡ tree_proof m (map leaf_hash entries)
-unfolding proof_of tree_sub
+unfolding sub_of tree_sub
 proof_of-map m entries = rw (length-map entries leaf_hash) (sub_within-map leaf_hash (length entries) m true entries)
 
 pub proof_of_entries : (m : ℕ) (path leaves entries : List (List ℕ)) → path ≡ tree_proof m leaves → map leaf_hash entries ≡ leaves → path ≡ proof_of m entries
@@ -367,7 +367,7 @@ unfolding tree_path tree_root
 tree_path-leads m leaf leaves at = from_path (λ h. h) m leaf leaves at
 
 pub proof_of-joins : (m : ℕ) (entries : List (List ℕ)) → 0 < m → m ≤ length entries → roots_from m (length entries) (mth (take m entries)) (proof_of m entries) ≡ Some (mth (take m entries), mth entries)
-unfolding proof_of mth
+unfolding sub_of mth
 proof_of-joins m entries some within = from_proof leaf_hash m entries some within
 
 pub tree_proof-joins : (m : ℕ) (leaves : List (List ℕ)) → 0 < m → m ≤ length leaves → roots_from m (length leaves) (tree_root (take m leaves)) (tree_proof m leaves) ≡ Some (tree_root (take m leaves), tree_root leaves)
@@ -416,3 +416,18 @@ pub tree_sub-right : (m : ℕ) (whole : Bool) (leaves : List (List ℕ)) → 2 �
     → tree_sub m whole leaves ≡ tree_sub (m - split_point (length leaves)) false (drop (split_point (length leaves)) leaves) ++ tree_root (take (split_point (length leaves)) leaves) ∷ []
 unfolding tree_sub tree_root
 tree_sub-right m whole leaves many less high = subbed-right (λ h. h) m whole leaves many less high
+
+-- the standard's three equations
+pub sub_of-whole : (m : ℕ) (whole : Bool) (entries : List (List ℕ)) → 0 < m → m ≡ length entries → sub_of m whole entries ≡ unless_whole whole (mth entries)
+unfolding sub_of mth
+sub_of-whole m whole entries some is = subbed-whole leaf_hash m whole entries some is
+
+pub sub_of-left : (m : ℕ) (whole : Bool) (entries : List (List ℕ)) → 2 ≤ length entries → m < length entries → m ≤ split_point (length entries)
+    → sub_of m whole entries ≡ sub_of m whole (take (split_point (length entries)) entries) ++ mth (drop (split_point (length entries)) entries) ∷ []
+unfolding sub_of mth
+sub_of-left m whole entries many less low = subbed-left leaf_hash m whole entries many less low
+
+pub sub_of-right : (m : ℕ) (whole : Bool) (entries : List (List ℕ)) → 2 ≤ length entries → m < length entries → split_point (length entries) < m
+    → sub_of m whole entries ≡ sub_of (m - split_point (length entries)) false (drop (split_point (length entries)) entries) ++ mth (take (split_point (length entries)) entries) ∷ []
+unfolding sub_of mth
+sub_of-right m whole entries many less high = subbed-right leaf_hash m whole entries many less high

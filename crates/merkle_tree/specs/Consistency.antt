@@ -20,9 +20,13 @@ sub_within leaf (suc levels) m whole (d ∷ e ∷ rest) = let all = d ∷ e ∷ 
     else (if nat_le m k then sub_within leaf levels m whole (take k all) ++ root_within leaf levels (drop k all) ∷ []
     else sub_within leaf levels (m - k) false (drop k all) ++ root_within leaf levels (take k all) ∷ [])
 
+-- SUBPROOF(m, D, b)
+unfoldable pub sub_of : ℕ → Bool → List (List ℕ) → List (List ℕ)
+sub_of m whole entries = sub_within leaf_hash (length entries) m whole entries
+
 -- PROOF(m, D), which is empty for m = n
-unfoldable pub proof_of : ℕ → List (List ℕ) → List (List ℕ)
-proof_of m entries = sub_within leaf_hash (length entries) m true entries
+abbrev pub proof_of : ℕ → List (List ℕ) → List (List ℕ)
+proof_of m entries = sub_of m true entries
 
 -- the same over the hashes of the leaves
 unfoldable pub tree_sub : ℕ → Bool → List (List ℕ) → List (List ℕ)

@@ -1,9 +1,9 @@
-ghost use Rattle.std.specs.Prelude.{◌≡◌, ℕ, ◌+◌, ◌*◌, ◌^◌, ◌-◌, ◌<◌, ◌≤◌, List, [], ◌∷◌, ◌++◌, length, take, drop, map, slice_get, Some};
+ghost use Rattle.std.specs.Prelude.{◌≡◌, ℕ, ◌+◌, ◌*◌, ◌^◌, ◌-◌, ◌<◌, ◌≤◌, List, [], ◌∷◌, ◌++◌, length, take, drop, map, slice_get, Some, Bool, false};
 ghost use Rattle.sha2.specs.Sha256.{sha256};
 ghost use Rattle.merkle_tree.specs.Mth.{leaf_hash, node_hash, split_point, mth, tree_root, IsLargestPowerBelow, IsWholeFront};
 ghost use Rattle.merkle_tree.specs.Levels.{nodes_at};
 ghost use Rattle.merkle_tree.specs.Paths.{path_of, root_from, tree_path};
-ghost use Rattle.merkle_tree.specs.Consistency.{proof_of, roots_from, tree_proof};
+ghost use Rattle.merkle_tree.specs.Consistency.{proof_of, roots_from, sub_of, tree_proof, unless_whole};
 ghost use Rattle.merkle_tree.specs.Inputs.{Collides, path_inputs, proof_inputs, tree_inputs};
 
 /// The equations by which RFC 9162, 2.1.1 defines the root of a list of entries hold of `mth`, for
@@ -65,8 +65,14 @@ pub fn path_laws()
     ensures of_entries { (m : ℕ) (entries : List (List ℕ)) → path_of m entries ≡ tree_path m (map leaf_hash entries) }
 {}
 
-/// A consistency proof leads to the roots of both trees.
+/// The equations by which RFC 9162, 2.1.4.1 defines a consistency proof hold of `sub_of`, of which `proof_of` is the case
+/// where the old root is known, and a proof leads to the roots of both trees.
 pub fn proof_laws()
+    ensures whole { (m : ℕ) (known : Bool) (entries : List (List ℕ)) → 0 < m → m ≡ length entries → sub_of m known entries ≡ unless_whole known (mth entries) }
+    ensures left { (m : ℕ) (known : Bool) (entries : List (List ℕ)) → 2 ≤ length entries → m < length entries → m ≤ split_point (length entries) → let k = split_point (length entries) in
+        sub_of m known entries ≡ sub_of m known (take k entries) ++ mth (drop k entries) ∷ [] }
+    ensures right { (m : ℕ) (known : Bool) (entries : List (List ℕ)) → 2 ≤ length entries → m < length entries → split_point (length entries) < m → let k = split_point (length entries) in
+        sub_of m known entries ≡ sub_of (m - k) false (drop k entries) ++ mth (take k entries) ∷ [] }
     ensures joins { (m : ℕ) (entries : List (List ℕ)) → 0 < m → m ≤ length entries
         → roots_from m (length entries) (mth (take m entries)) (proof_of m entries) ≡ Some (mth (take m entries), mth entries) }
     ensures leaves { (m : ℕ) (leaves : List (List ℕ)) → 0 < m → m ≤ length leaves
