@@ -144,6 +144,13 @@ module _ (words : WordLaws) (lms : LmsLaws) where
   key_read x key named =
       words.part_behind (u32str x) (public_of key) 4 0 56 (words.word_len x) ∙ words.part_whole (public_of key) 56 (public_len_is key named)
 
+  pub hss_public-len : (levels : List Level) (id seed : List ℕ) → IsLevels levels → length id ≡ 16 → length (hss_public levels id seed) ≡ 60
+  hss_public-len [] id seed is named = absurd (omega (arith, is.some))
+  hss_public-len (level ∷ below) id seed is named =
+      let key = top_key level id seed in
+      let n = length (level ∷ below) in
+      omega (arith, length-append (u32str n) (public_of key), words.word_len n, public_len_is key named)
+
   pub hss_verifies : (levels : List Level) (id seed : List ℕ) (index : ℕ) (msg : List ℕ) → IsLevels levels → length id ≡ 16 → index < capacity levels
       → HssVerifies (hss_public levels id seed) (hss_sig levels id seed index msg) msg
   hss_verifies [] id seed index msg is named h = absurd (omega (arith, is.some))
@@ -158,6 +165,7 @@ module _ (words : WordLaws) (lms : LmsLaws) where
       let total = word_read (length (level ∷ below)) public more in
       let key_part = key_read (length (level ∷ below)) key named in
       record {
+        whole = hss_public-len (level ∷ below) id seed is named;
         some = rw total (omega arith);
         most = rw total (omega (arith, is.most));
         enough = word_len n b fits;
@@ -182,13 +190,6 @@ module _ (words : WordLaws) (lms : LmsLaws) where
       let key = top_key level id seed in
       let n = length below in
       omega (arith, length-append (u32str n) (below_sig key below index msg), words.word_len n, signed_len below key index msg named h)
-
-  pub hss_public-len : (levels : List Level) (id seed : List ℕ) → IsLevels levels → length id ≡ 16 → length (hss_public levels id seed) ≡ 60
-  hss_public-len [] id seed is named = absurd (omega (arith, is.some))
-  hss_public-len (level ∷ below) id seed is named =
-      let key = top_key level id seed in
-      let n = length (level ∷ below) in
-      omega (arith, length-append (u32str n) (public_of key), words.word_len n, public_len_is key named)
 
   pub hss_public-names : (levels : List Level) (id seed : List ℕ) → IsLevels levels → length id ≡ 16 → NamesLevels levels (hss_public levels id seed)
   hss_public-names [] id seed is named = absurd (omega (arith, is.some))

@@ -1,5 +1,6 @@
 -- The leaf numbers of a signature spell one index at most.
-use Rattle.std.proofs.Common.{◌≡◌, ℕ, ◌+◌, ◌*◌, List, [], ◌∷◌, drop, ap, sym, ◌∙◌}
+use Rattle.std.proofs.Common.{◌≡◌, ℕ, ◌+◌, ◌*◌, List, [], ◌∷◌, drop, ap, sym, ◌∙◌, Option, None, Some}
+use Rattle.std.specs.Prelude.{IfSome}
 use Rattle.lms_ots.specs.Words.{u32_at}
 use Rattle.lms_tree.specs.declared.types.Level.{Level}
 use Rattle.lms_tree.specs.Types.{sig_len}
@@ -16,3 +17,7 @@ pub flat_index-one : (levels : List Level) (sig : List ℕ) (first second : ℕ)
 flat_index-one [] sig first second h k = absurd h
 flat_index-one (level ∷ below) sig first second h k =
     index_below-one below level (drop 4 sig) first second h.2 k.2
+
+pub only_index : (levels : List Level) (sig : List ℕ) (found : Option ℕ) → IfSome found (λ index. FlatIndex levels sig index) → IfSome found (λ index. (other : ℕ) → FlatIndex levels sig other → other ≡ index)
+only_index levels sig None h = tt
+only_index levels sig (Some index) h = λ other k. flat_index-one levels sig other index k h

@@ -1,4 +1,5 @@
 pub mod Levels
+pub mod Functions
 pub mod Keys
 pub mod Verifies
 pub mod Signing

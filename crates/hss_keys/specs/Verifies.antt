@@ -14,9 +14,10 @@ VerifiesBelow zero public sig msg = LmsVerifies public sig msg
 VerifiesBelow (suc count) public sig msg = (n : ℕ) × (n + 56 ≤ length sig)
     × LmsVerifies public (part sig 0 n) (part sig n 56) × VerifiesBelow count (part sig n 56) (drop (n + 56) sig) msg
 
--- an HSS signature verifies a message under an HSS key: the key has 1 to 8 levels, the first word of
--- the signature is one less, and the levels verify
+-- an HSS signature verifies a message under an HSS key: the key has 60 bytes and counts 1 to 8 levels,
+-- the first word of the signature is one less, and the levels verify
 pub record HssVerifies (key sig msg : List ℕ) : Type 0 where
+  pub whole : length key ≡ 60
   pub some : 1 ≤ u32_at key 0
   pub most : u32_at key 0 ≤ 8
   pub enough : 4 ≤ length sig

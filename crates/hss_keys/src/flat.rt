@@ -10,11 +10,12 @@ use crate::levels::{Levels, capacity};
 use lms_ots::{u32_at, word_law};
 use lms_tree::{Level, has_types, level_at, lms_sig_len};
 
-/// The index that the leaf numbers of `sig` spell under these levels; `None` where and only where `sig`
+/// The one index that the leaf numbers of `sig` spell under these levels; `None` where and only where `sig`
 /// isn't laid out for them: another length or count of levels, a type code in a signature or a next key
 /// that differs from its level's, or a leaf number that the tree of its level doesn't have.
 pub fn flat_index(levels: &Levels, sig: &[u8]) -> Option<u64>
     ensures some { IfSome result (λ index. FlatIndex levels.now sig.now index) }
+    ensures only { IfSome result (λ index. (other : ℕ) → FlatIndex levels.now sig.now other → other ≡ index) }
     ensures none { IfNone result ((index : ℕ) → FlatIndex levels.now sig.now index → ⊥) }
 {
     let levels = levels.as_slice();

@@ -7,6 +7,7 @@ ghost use Rattle.hss_keys.specs.Keys.{NamesLevels};
 ghost use Rattle.hss_keys.specs.Signing.{hss_public, hss_sig};
 ghost use Rattle.hss_keys.specs.Signers.{hss_sig_len};
 ghost use Rattle.hss_keys.specs.Verifies.{FlatIndex, HssVerifies};
+ghost use Rattle.hss_keys.specs.Functions.{IndexExactly, NamesExactly, VerifiesExactly};
 
 use lms_ots::word_law;
 use lms_tree::lms_law;
@@ -33,6 +34,16 @@ pub fn hss_law()
 {
     word_law();
     lms_law();
+}
+
+/// Whether a signature verifies, which index it spells, and whether a key names levels, asked as functions: they answer
+/// exactly what the relations say, for every list of numbers.
+pub fn key_laws()
+    ensures verifies { VerifiesExactly }
+    ensures index { IndexExactly }
+    ensures names { NamesExactly }
+{
+    word_law();
 }
 
 /// Levels sign at least one message and at most 2^30, each in at most 26648 bytes.

@@ -11,7 +11,7 @@ mod verifying;
 
 pub use flat::flat_index;
 pub use keys::names_levels;
-pub use laws::{hss_law, levels_law};
+pub use laws::{hss_law, key_laws, levels_law};
 pub use levels::Levels;
 pub use lms_ots::{OtsType, ots_type};
 pub use lms_tree::{Level, LmsType, OutOfMemory, lms_type};

@@ -1,6 +1,6 @@
 // One-time keys, signatures and candidate keys (RFC 8554, 4.3 to 4.6).
 
-ghost use Rattle.std.specs.Prelude.{◌≡◌, ◌≢◌, ℕ, ◌↔◌, ◌+◌, ◌*◌, ◌<◌, ◌≤◌, ◌++◌, length, IsSomeAnd};
+ghost use Rattle.std.specs.Prelude.{◌≡◌, ◌≢◌, ℕ, ◌↔◌, ◌+◌, ◌*◌, ◌<◌, ◌≤◌, ◌++◌, length, IfOk, IsSomeAnd};
 ghost use Rattle.lms_ots.specs.Words.{part};
 ghost use Rattle.lms_ots.specs.Parameters.{parameters};
 ghost use Rattle.lms_ots.specs.OneTime.{front_type, message_hash, ots_candidate, ots_key, ots_sig, randomizer};
@@ -63,7 +63,8 @@ pub fn ots_sign_into(kind: OtsType, at: &OtsAt, seed: &Hash, msg: &[u8], buf: &m
 /// The candidate key of the signature `sig` on `msg` (RFC 8554, 4.6, algorithm 4b).
 ///
 /// `BadType` where and only where the signature doesn't begin with a type's code; `BadLength` where
-/// and only where it does, but is longer or shorter than signatures of that type.
+/// and only where it does, but is longer or shorter than signatures of that type. So where there is a
+/// candidate key, the signature begins with a type's code and has that type's length.
 pub fn ots_public_from(at: &OtsAt, sig: &[u8], msg: &[u8]) -> Result<Hash, OtsStop>
     ensures bad_type { (result ≡ Err OtsStop.BadType) ↔ (front_type sig.now ≡ None) }
     ensures bad_length { (result ≡ Err OtsStop.BadLength)
@@ -71,6 +72,8 @@ pub fn ots_public_from(at: &OtsAt, sig: &[u8], msg: &[u8]) -> Result<Hash, OtsSt
     ensures key { (kind : OtsType) → front_type sig.now ≡ Some kind
         → length sig.now ≡ (parameters kind).sig_len
         → result ≡ Ok (ots_candidate kind at.now sig.now msg.now) }
+    ensures ok { IfOk result (λ key. IsSomeAnd (front_type sig.now) (λ kind. (length sig.now ≡ (parameters kind).sig_len)
+        × (key ≡ ots_candidate kind at.now sig.now msg.now))) }
 {
     match front_type(sig) {
         None => Err(OtsStop::BadType),

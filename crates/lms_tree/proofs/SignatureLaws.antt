@@ -203,6 +203,7 @@ module _ (words : WordLaws) (one_time : OtsLaws) where
       pub verifies : LmsVerifies (lms_public level id seed) (lms_sig level id seed q msg) msg
       unfolding sig
       verifies = record {
+        whole = length-lms_public;
         level = level;
         known = level_at-lms_public;
         types = record { whole = length-sig; ots_code = ots_code_read; lms_code = lms_code_read; leaf = rw q_read below };

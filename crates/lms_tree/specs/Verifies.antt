@@ -37,9 +37,10 @@ pub record HasTypes (level : Level) (sig : List ℕ) : Type 0 where
   pub lms_code : u32_at sig (4 + (parameters level.ots).sig_len) ≡ (lms_parameters level.lms).code
   pub leaf : u32_at sig 0 < leaf_count level
 
--- a signature verifies a message under a public key: the key's type codes are known, the signature
--- has its types, and the root is the key's T[1]
+-- a signature verifies a message under a public key: the key has 56 bytes and its type codes are known,
+-- the signature has its types, and the root is the key's T[1]
 pub record LmsVerifies (public sig msg : List ℕ) : Type 0 where
+  pub whole : length public ≡ 56
   pub level : Level
   pub known : level_at public 0 ≡ Some level
   pub types : HasTypes level sig
