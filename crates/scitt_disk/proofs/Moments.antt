@@ -150,3 +150,8 @@ through_sync held image (inr has) =
       | inl before ↦ inl before
       | inr none ↦ absurd none
     ]
+
+-- at a state between two others
+pub inside_since : (first middle last : Held) (image : List ℕ) → Continues first middle → Continues middle last → ImageNow middle image → ImageSince last (moment first) image
+inside_since first middle last image one two now =
+    since_stretch middle last (moment first) image two (moment_later first middle one) (two.kept image now)

@@ -50,3 +50,8 @@ EarlierRunsJoin =
 -- moments don't fall
 abbrev pub MomentsRise : Type 0
 MomentsRise = (old new : Held) → Continues old new → moment old ≤ moment new
+
+-- what a crash at a state between two others might have left it might have left since the first
+abbrev pub InsideIsSince : Type 0
+InsideIsSince =
+    (first middle last : Held) (image : List ℕ) → Continues first middle → Continues middle last → ImageNow middle image → ImageSince last (moment first) image

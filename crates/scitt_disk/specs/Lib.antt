@@ -1,6 +1,7 @@
 pub mod Images
 pub mod Changes
 pub mod Laws
+pub mod Leaves
 pub mod Calls
 pub mod Failing
 pub mod Memory

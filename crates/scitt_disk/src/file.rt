@@ -142,6 +142,8 @@ impl<R: Files<File = File>> Disk for FileDisk<R> {
 
     ghost fault_count = { faults_of_file };
 
+    ghost strays = { λ _. 0 };
+
     ghost same = { λ _ _. Unit {0} };
 
     ghost same_self = { λ _. tt };

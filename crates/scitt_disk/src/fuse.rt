@@ -2,7 +2,7 @@ ghost use Rattle.std.specs.Prelude.{◌≡◌, ◌+◌, ◌-◌, ◌^◌, ◌<�
 ghost use Rattle.scitt_io.specs.Causes.{HasCause, raised};
 ghost use Rattle.scitt_disk.specs.Changes.{after_write, after_sync, AfterFailedWrite};
 ghost use Rattle.scitt_disk.specs.Failing.{Advances};
-ghost use Rattle.scitt_disk.specs.Memory.{held_of, plan_of};
+ghost use Rattle.scitt_disk.specs.Memory.{held_of, plan_of, strays_of, wants_of};
 ghost use Rattle.scitt_disk.specs.SeenIsImage.{IsImage-held_of};
 
 use crate::device::{Disk, DiskFault};
@@ -69,6 +69,8 @@ impl Disk for FuseDisk {
 
     ghost fault_count = { faults_of };
 
+    ghost strays = { λ f. strays_of (beneath f) };
+
     ghost same = { λ _ _. Unit {0} };
 
     ghost same_self = { λ _. tt };
@@ -81,6 +83,7 @@ impl Disk for FuseDisk {
         ensures len { IfOk result (λ n. n ≡ length (held_of (beneath self.old)).seen) }
         ensures kept { held_of (beneath self.new) ≡ held_of (beneath self.old) }
         ensures cause { HasCause (faults_of self.old) (faults_of self.new) result }
+        ensures strays { strays_of (beneath self.new) ≡ strays_of (beneath self.old) }
         ensures spent { passes_of self.old ≡ 0 → IsErr result }
         ensures stopped { passes_of self.old ≡ 0 → beneath self.new ≡ beneath self.old }
         ensures passed { 0 < passes_of self.old
@@ -102,6 +105,9 @@ impl Disk for FuseDisk {
         ensures within { OnOk result (at + length buf.old ≤ length (held_of (beneath self.old)).seen) }
         ensures kept { held_of (beneath self.new) ≡ held_of (beneath self.old) }
         ensures cause { HasCause (faults_of self.old) (faults_of self.new) result }
+        ensures strays { strays_of (beneath self.old) ≤ strays_of (beneath self.new) }
+        ensures in_range { at + length buf.old ≤ length (held_of (beneath self.old)).seen
+            → strays_of (beneath self.new) ≡ strays_of (beneath self.old) }
         ensures spent { passes_of self.old ≡ 0 → IsErr result }
         ensures stopped { passes_of self.old ≡ 0 → beneath self.new ≡ beneath self.old }
         ensures passed { 0 < passes_of self.old
@@ -123,6 +129,9 @@ impl Disk for FuseDisk {
         ensures within { OnOk result (at ≤ length (held_of (beneath self.old)).seen) }
         ensures failed { OnErr result (AfterFailedWrite at (length bytes.now) (held_of (beneath self.old)) (held_of (beneath self.new))) }
         ensures cause { HasCause (faults_of self.old) (faults_of self.new) result }
+        ensures strays { strays_of (beneath self.old) ≤ strays_of (beneath self.new) }
+        ensures in_range { at ≤ length (held_of (beneath self.old)).seen
+            → strays_of (beneath self.new) ≡ strays_of (beneath self.old) }
         ensures spent { passes_of self.old ≡ 0 → IsErr result }
         ensures stopped { passes_of self.old ≡ 0 → beneath self.new ≡ beneath self.old }
         ensures passed { 0 < passes_of self.old
@@ -143,6 +152,7 @@ impl Disk for FuseDisk {
             ≡ after_sync (held_of (beneath self.old))) }
         ensures failed { OnErr result (held_of (beneath self.new) ≡ held_of (beneath self.old)) }
         ensures cause { HasCause (faults_of self.old) (faults_of self.new) result }
+        ensures strays { strays_of (beneath self.new) ≡ strays_of (beneath self.old) }
         ensures spent { passes_of self.old ≡ 0 → IsErr result }
         ensures stopped { passes_of self.old ≡ 0 → beneath self.new ≡ beneath self.old }
         ensures passed { 0 < passes_of self.old

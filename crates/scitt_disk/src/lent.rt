@@ -11,6 +11,8 @@ impl<D: Disk> Disk for &mut D {
 
     ghost fault_count = { λ d. D.fault_count d.now };
 
+    ghost strays = { λ d. D.strays d.now };
+
     ghost same = { λ a b. b.ghost_name ≡ a.ghost_name };
 
     ghost same_self = { λ a. refl };

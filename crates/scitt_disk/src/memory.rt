@@ -1,5 +1,5 @@
 ghost use Rattle.std.specs.Prelude.{◌≡◌, ℕ, List, ◌+◌, ◌≤◌, ◌<◌, ◌↔◌, ◌⊎◌, Bool, true, IsTrue, IfOk, OnOk, OnErr, IsErr, [], length, take, drop, if◌then◌else◌};
-ghost use Rattle.scitt_io.specs.Causes.{HasCause, raised};
+ghost use Rattle.scitt_io.specs.Causes.{HasCause, Rose, raised};
 ghost use Rattle.scitt_disk.specs.Images.{ImageNow};
 ghost use Rattle.scitt_disk.specs.Changes.{fresh, after_write, after_sync, AfterFailedWrite};
 ghost use Rattle.scitt_disk.specs.Calls.{held_from};
@@ -17,7 +17,8 @@ use std::alloc::AllocError;
 /// `write_at` and `sync` together.
 ///
 /// From its first change on it keeps its first bytes and each change, once, and so what it held at each sync. A write
-/// goes in place. Where it finds no memory it answers `DiskFault` and counts it.
+/// goes in place. Where it finds no memory for a change it answers `DiskFault` and counts it; such a call isn't listed, and
+/// `wants_of` counts it besides.
 #[derive(Drop)]
 pub struct MemDisk {
     bytes: Vec<u8>,
@@ -25,11 +26,13 @@ pub struct MemDisk {
     kept: bool,
     changes: Vec<Change>,
     plan: Plan,
+    strays: u64,
+    wants: u64,
     ghost replayed: { bytes.items ≡ (held_from kept first.items bytes.items changes.items).seen },
 }
 
 impl MemDisk {
-    ghost use Rattle.scitt_disk.specs.Memory.{held_of, plan_of};
+    ghost use Rattle.scitt_disk.specs.Memory.{held_of, plan_of, strays_of, wants_of};
 
     /// A disk of these bytes with nothing pending. It takes no memory.
     pub fn new(bytes: Vec<u8>, fails: Vec<u32>) -> MemDisk
@@ -37,6 +40,8 @@ impl MemDisk {
         ensures fails { (plan_of result).fails ≡ fails }
         ensures made { (plan_of result).made ≡ 0 }
         ensures faults { (plan_of result).faults ≡ 0 }
+        ensures strays { strays_of result ≡ 0 }
+        ensures wants { wants_of result ≡ 0 }
     {
         let alloc = *bytes.allocator();
         MemDisk {
@@ -45,6 +50,8 @@ impl MemDisk {
             kept: false,
             changes: Vec::new(alloc),
             plan: Plan::new(fails),
+            strays: 0,
+            wants: 0,
         }
     }
 
@@ -73,11 +80,47 @@ impl MemDisk {
         Ok(MemDisk::new(image, Vec::new(alloc)))
     }
 
+    // Whether a range of n bytes from this place on passes the end; counts a stray where it does.
+    fn passes_end(&mut self, at: u64, n: usize) -> bool
+        ensures passes { IsTrue result ↔ (length (held_of self.old).seen < at + n) }
+        ensures strays { strays_of self.new ≡ (if result then raised (strays_of self.old) else strays_of self.old) }
+        ensures later { strays_of self.old ≤ strays_of self.new }
+        ensures held { held_of self.new ≡ held_of self.old }
+        ensures plan { plan_of self.new ≡ plan_of self.old }
+        ensures wants { wants_of self.new ≡ wants_of self.old }
+    {
+        let len = self.bytes.len();
+        let passes = at > len as u64 || n > len - at as usize;
+        let _before = self.strays;
+        if passes {
+            self.strays = self.strays.saturating_add(1);
+        }
+        passes
+    }
+
+    // Counts a fault of a call that found no memory.
+    fn count_want(&mut self)
+        ensures held { held_of self.new ≡ held_of self.old }
+        ensures fails { (plan_of self.new).fails ≡ (plan_of self.old).fails }
+        ensures made { (plan_of self.new).made ≡ (plan_of self.old).made }
+        ensures faults { (plan_of self.new).faults ≡ raised (plan_of self.old).faults }
+        ensures rose { Rose (plan_of self.old).faults (plan_of self.new).faults }
+        ensures later { (plan_of self.old).faults ≤ (plan_of self.new).faults }
+        ensures wants { wants_of self.new ≡ raised (wants_of self.old) }
+        ensures strays { strays_of self.new ≡ strays_of self.old }
+    {
+        let _before = self.wants;
+        count_fault(&mut self.plan);
+        self.wants = self.wants.saturating_add(1);
+    }
+
     // Keeps the first bytes, at the first change.
     fn keep_first(&mut self) -> Result<(), AllocError>
         ensures held { held_of self.new ≡ held_of self.old }
         ensures kept { OnOk result (IsTrue self.new.kept) }
         ensures plan { plan_of self.new ≡ plan_of self.old }
+        ensures strays { strays_of self.new ≡ strays_of self.old }
+        ensures wants { wants_of self.new ≡ wants_of self.old }
     {
         if !self.kept {
             self.first = Vec::from_slice(*self.bytes.allocator(), &self.bytes)?;
@@ -91,6 +134,8 @@ impl MemDisk {
         ensures ok { OnOk result (held_of self.new ≡ after_write at piece.now (held_of self.old)) }
         ensures err { OnErr result (held_of self.new ≡ held_of self.old) }
         ensures plan { plan_of self.new ≡ plan_of self.old }
+        ensures strays { strays_of self.new ≡ strays_of self.old }
+        ensures wants { wants_of self.new ≡ wants_of self.old }
     {
         self.keep_first()?;
         write_and_note(&mut self.bytes, &mut self.changes, at, piece)?;
@@ -99,7 +144,7 @@ impl MemDisk {
 }
 
 impl Disk for MemDisk {
-    ghost use Rattle.scitt_disk.specs.Memory.{held_of, plan_of};
+    ghost use Rattle.scitt_disk.specs.Memory.{held_of, plan_of, strays_of, wants_of};
     ghost use Rattle.scitt_disk.specs.SeenIsImage.{IsImage-held_of};
 
     ghost tells = { true };
@@ -107,6 +152,8 @@ impl Disk for MemDisk {
     ghost held = { held_of };
 
     ghost fault_count = { λ d. (plan_of d).faults };
+
+    ghost strays = { strays_of };
 
     ghost same = { λ _ _. Unit {0} };
 
@@ -123,6 +170,8 @@ impl Disk for MemDisk {
         ensures listed { IsErr result ↔ FailsNow (plan_of self.old) }
         ensures counted { Advances (plan_of self.old) (plan_of self.new) }
         ensures once { OnErr result ((plan_of self.new).faults ≡ raised (plan_of self.old).faults) }
+        ensures strays { strays_of self.new ≡ strays_of self.old }
+        ensures wants { wants_of self.new ≡ wants_of self.old }
     {
         if fails_next(&mut self.plan) {
             return Err(DiskFault);
@@ -142,12 +191,18 @@ impl Disk for MemDisk {
             < at + length buf.old)) }
         ensures counted { Advances (plan_of self.old) (plan_of self.new) }
         ensures once { OnErr result ((plan_of self.new).faults ≡ raised (plan_of self.old).faults) }
+        ensures strays { strays_of self.old ≤ strays_of self.new }
+        ensures in_range { at + length buf.old ≤ length (held_of self.old).seen
+            → strays_of self.new ≡ strays_of self.old }
+        ensures stray { length (held_of self.old).seen < at + length buf.old
+            → strays_of self.new ≡ raised (strays_of self.old) }
+        ensures wants { wants_of self.new ≡ wants_of self.old }
     {
+        let passes = self.passes_end(at, buf.len());
         if fails_next(&mut self.plan) {
             return Err(DiskFault);
         }
-        let len = self.bytes.len();
-        if at > len as u64 || buf.len() > len - at as usize {
+        if passes {
             count_fault(&mut self.plan);
             return Err(DiskFault);
         }
@@ -162,15 +217,27 @@ impl Disk for MemDisk {
         ensures failed { OnErr result (AfterFailedWrite at (length bytes.now) (held_of self.old) (held_of self.new)) }
         ensures cause { HasCause (plan_of self.old).faults (plan_of self.new).faults result }
         ensures listed { FailsNow (plan_of self.old) → IsErr result }
+        ensures past { length (held_of self.old).seen < at → IsErr result }
+        ensures only { OnErr result (FailsNow (plan_of self.old) ⊎ (length (held_of self.old).seen < at)
+            ⊎ Rose (wants_of self.old) (wants_of self.new)) }
         ensures counted { Advances (plan_of self.old) (plan_of self.new) }
         ensures once { OnErr result ((plan_of self.new).faults ≡ raised (plan_of self.old).faults) }
+        ensures strays { strays_of self.old ≤ strays_of self.new }
+        ensures in_range { at ≤ length (held_of self.old).seen → strays_of self.new ≡ strays_of self.old }
+        ensures stray { length (held_of self.old).seen < at → strays_of self.new ≡ raised (strays_of self.old) }
+        ensures wants { OnOk result (wants_of self.new ≡ wants_of self.old) }
     {
+        let passes = self.passes_end(at, 0);
         if fails_next(&mut self.plan) {
             note_refusal(&mut self.changes, at, bytes.len() as u64);
             return Err(DiskFault);
         }
-        if at > self.bytes.len() as u64 || self.store(at, bytes).is_err() {
+        if passes {
             count_fault(&mut self.plan);
+            return Err(DiskFault);
+        }
+        if self.store(at, bytes).is_err() {
+            self.count_want();
             return Err(DiskFault);
         }
         Ok(())
@@ -181,14 +248,17 @@ impl Disk for MemDisk {
         ensures failed { OnErr result (held_of self.new ≡ held_of self.old) }
         ensures cause { HasCause (plan_of self.old).faults (plan_of self.new).faults result }
         ensures listed { FailsNow (plan_of self.old) → IsErr result }
+        ensures only { OnErr result (FailsNow (plan_of self.old) ⊎ Rose (wants_of self.old) (wants_of self.new)) }
         ensures counted { Advances (plan_of self.old) (plan_of self.new) }
         ensures once { OnErr result ((plan_of self.new).faults ≡ raised (plan_of self.old).faults) }
+        ensures strays { strays_of self.new ≡ strays_of self.old }
+        ensures wants { OnOk result (wants_of self.new ≡ wants_of self.old) }
     {
         if fails_next(&mut self.plan) {
             return Err(DiskFault);
         }
         if note_sync(&mut self.changes).is_err() {
-            count_fault(&mut self.plan);
+            self.count_want();
             return Err(DiskFault);
         }
         Ok(())

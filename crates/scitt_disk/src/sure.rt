@@ -29,6 +29,8 @@ impl Disk for SureDisk {
 
     ghost fault_count = { λ _. 0 };
 
+    ghost strays = { λ _. 0 };
+
     ghost same = { λ _ _. Unit {0} };
 
     ghost same_self = { λ _. tt };

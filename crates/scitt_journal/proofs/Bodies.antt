@@ -1,4 +1,4 @@
-use Rattle.std.proofs.Common.{◌≡◌, ℕ, ◌+◌, ◌-◌, ◌^◌, ◌<◌, min, List, [], ◌∷◌, ◌++◌, length, take, drop, get_or, refl, ap, sym, ◌∙◌, arith, append_assoc, length-append, Result, Ok, Err, IfOk}
+use Rattle.std.proofs.Common.{◌≡◌, ℕ, ◌+◌, ◌-◌, ◌^◌, ◌<◌, ◌≤◌, min, List, [], ◌∷◌, ◌++◌, length, take, drop, get_or, refl, ap, sym, ◌∙◌, arith, append_assoc, length-append, Result, Ok, Err, IfOk}
 use Rattle.std.proofs.lemmas.List.{take-append-drop, drop_more, get_or_at, get_or-append_right, take_at, drop_at, length-take-le}
 use Rattle.std.proofs.Math.Seq.{drop-append-add}
 use Rattle.scitt_journal.specs.Layout.{size_bytes, sized, spelled, starts}
@@ -39,9 +39,14 @@ body_there front body back behind =
     let whole : spelled (front ++ body ∷ back) ++ behind ≡ spelled front ++ 1 ∷ (size_bytes (length body) ++ rest) = ap (λ list. list ++ behind) (spelled_append front (body ∷ back)) ∙ append_assoc (spelled front) (spelled (body ∷ back)) behind ∙ ap (λ tail. spelled front ++ 1 ∷ tail) (append_assoc (sized body) (spelled back) behind ∙ append_assoc (size_bytes (length body)) body (spelled back ++ behind)) in
     ap (λ list. take (length body) (drop (length (spelled front) + 5) list)) whole ∙ ap (take (length body)) (drop-append-add (spelled front) (1 ∷ (size_bytes (length body) ++ rest)) 5 ∙ drop_at (size_bytes (length body)) rest 4 (length-size_bytes (length body))) ∙ take_at body (spelled back ++ behind) (length body) refl
 
--- what a read of a record's place gives
-pub body_at : (bodies : List (List ℕ)) (offsets seen behind : List ℕ) (gate number start end from : ℕ) → offsets ≡ starts 0 bodies → length (spelled bodies) ≡ gate → seen ≡ spelled bodies ++ behind → number < length offsets → start ≡ get_or offsets number 0 → end ≡ get_or (offsets ++ gate ∷ []) (number + 1) 0 → end < 2 ^ 64 → from ≡ min (start + 5) (2 ^ 64 - 1) → take (end - from) (drop from seen) ≡ get_or bodies number []
-body_at bodies offsets seen behind gate number start end from spelled_so place is below starts_at ends_at fits begins =
+-- where the record of a number stands among the others: its body begins at `from` and ends at `end`
+record Placed (bodies : List (List ℕ)) (number from end : ℕ) : Type 0 where
+  split : bodies ≡ take number bodies ++ get_or bodies number [] ∷ drop (number + 1) bodies
+  begins : from ≡ length (spelled (take number bodies)) + 5
+  ends : end ≡ from + length (get_or bodies number [])
+
+placed_at : (bodies : List (List ℕ)) (offsets : List ℕ) (gate number start end from : ℕ) → offsets ≡ starts 0 bodies → length (spelled bodies) ≡ gate → number < length offsets → start ≡ get_or offsets number 0 → end ≡ get_or (offsets ++ gate ∷ []) (number + 1) 0 → end < 2 ^ 64 → from ≡ min (start + 5) (2 ^ 64 - 1) → Placed bodies number from end
+placed_at bodies offsets gate number start end from spelled_so place below starts_at ends_at fits begins =
     let body : List ℕ = get_or bodies number [] in
     let front : List (List ℕ) = take number bodies in
     let back : List (List ℕ) = drop (number + 1) bodies in
@@ -50,9 +55,26 @@ body_at bodies offsets seen behind gate number start end from spelled_so place i
     let long : length front ≡ number = length-take-le number bodies (omega arith) in
     let start_so : start ≡ length (spelled front) = starts_at ∙ ap (λ list. get_or list number 0) (spelled_so ∙ ap (starts 0) split) ∙ ap (λ k. get_or (starts 0 (front ++ body ∷ back)) k 0) (sym long) ∙ start_is front body back in
     let end_so : end ≡ length (spelled front) + 5 + length body = ends_at ∙ ap (λ list. get_or (list ++ gate ∷ []) (number + 1) 0) (spelled_so ∙ ap (starts 0) split) ∙ ap (λ k. get_or (starts 0 (front ++ body ∷ back) ++ gate ∷ []) (k + 1) 0) (sym long) ∙ end_is front body back gate (sym place ∙ ap (λ list. length (spelled list)) split) in
-    let from_so : from ≡ length (spelled front) + 5 = omega arith in
-    let size_so : end - from ≡ length body = omega arith in
-    ap (λ n. take n (drop from seen)) size_so ∙ ap (λ n. take (length body) (drop n seen)) from_so ∙ ap (λ list. take (length body) (drop (length (spelled front) + 5) list)) (is ∙ ap (λ list. spelled list ++ behind) split) ∙ body_there front body back behind
+    record { split = split; begins = omega arith; ends = omega arith }
+
+-- what a read of that place gives, and that it lies within the file
+pub body_at : (bodies : List (List ℕ)) (offsets seen behind : List ℕ) (gate number start end from : ℕ) → offsets ≡ starts 0 bodies → length (spelled bodies) ≡ gate → seen ≡ spelled bodies ++ behind → number < length offsets → start ≡ get_or offsets number 0 → end ≡ get_or (offsets ++ gate ∷ []) (number + 1) 0 → end < 2 ^ 64 → from ≡ min (start + 5) (2 ^ 64 - 1) → take (end - from) (drop from seen) ≡ get_or bodies number []
+body_at bodies offsets seen behind gate number start end from spelled_so place is below starts_at ends_at fits begins =
+    let body : List ℕ = get_or bodies number [] in
+    let front : List (List ℕ) = take number bodies in
+    let back : List (List ℕ) = drop (number + 1) bodies in
+    let there = placed_at bodies offsets gate number start end from spelled_so place below starts_at ends_at fits begins in
+    let size_so : end - from ≡ length body = omega (arith, there.ends) in
+    ap (λ n. take n (drop from seen)) size_so ∙ ap (λ n. take (length body) (drop n seen)) there.begins ∙ ap (λ list. take (length body) (drop (length (spelled front) + 5) list)) (is ∙ ap (λ list. spelled list ++ behind) there.split) ∙ body_there front body back behind
+
+pub body_within : (bodies : List (List ℕ)) (offsets seen behind : List ℕ) (gate number start end from : ℕ) → offsets ≡ starts 0 bodies → length (spelled bodies) ≡ gate → seen ≡ spelled bodies ++ behind → number < length offsets → start ≡ get_or offsets number 0 → end ≡ get_or (offsets ++ gate ∷ []) (number + 1) 0 → end < 2 ^ 64 → from ≡ min (start + 5) (2 ^ 64 - 1) → from + (end - from) ≤ length seen
+body_within bodies offsets seen behind gate number start end from spelled_so place is below starts_at ends_at fits begins =
+    let body : List ℕ = get_or bodies number [] in
+    let front : List (List ℕ) = take number bodies in
+    let back : List (List ℕ) = drop (number + 1) bodies in
+    let there = placed_at bodies offsets gate number start end from spelled_so place below starts_at ends_at fits begins in
+    let whole : length (spelled bodies) ≡ length (spelled front) + length (spelled (body ∷ back)) = ap (λ list. length (spelled list)) there.split ∙ ap length (spelled_append front (body ∷ back)) ∙ length-append (spelled front) (spelled (body ∷ back)) in
+    omega (arith, there.begins, there.ends, whole, length-append (sized body) (spelled back), length-sized body, ap length is, length-append (spelled bodies) behind)
 
 pub if_ok_map : {T E : Type 0} (r : Result T E) (P Q : T → Type 0) → IfOk r P → ((x : T) → P x → Q x) → IfOk r Q
 if_ok_map (Ok x) P Q p map = map x p

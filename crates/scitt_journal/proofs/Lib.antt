@@ -7,3 +7,4 @@ pub mod Scans
 pub mod Bodies
 pub mod Unique
 pub mod OneOfThree
+pub mod KeepingLemmas

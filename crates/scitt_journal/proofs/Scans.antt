@@ -79,12 +79,12 @@ short_at seen gate offsets was opened within six cut =
     }
 
 -- why the walk stops
-pub explains_walk : (Tells : Type 0) (seen seen_now offsets : List ℕ) (gate before middle now : ℕ) (stop : LoadStop) → before ≤ middle → (Tells → seen_now ≡ seen) → (Tells → Scanned seen gate offsets) → (Tells → get_or seen gate 0 ≡ 1) → (Tells → gate < length seen) → (Tells → 6 ≤ length seen) → ExplainsCut Tells seen_now gate middle now stop → ExplainsLoad Tells seen before now stop
-explains_walk Tells seen seen_now offsets gate before middle now no_log later kept was opened within six why = absurd why
-explains_walk Tells seen seen_now offsets gate before middle now (short at) later kept was opened within six why = λ tells.
-    rw (why.0) (short_at seen gate offsets (was tells) (opened tells) (within tells) (six tells) (rw (kept tells) at (why.1 tells)))
-explains_walk Tells seen seen_now offsets gate before middle now disk_fault later kept was opened within six why = omega arith
-explains_walk Tells seen seen_now offsets gate before middle now out_of_memory later kept was opened within six why = tt
+pub explains_walk : (Tells : Type 0) (seen seen_now offsets : List ℕ) (gate before middle now : ℕ) (stop : LoadStop) → middle ≡ before → (Tells → seen_now ≡ seen) → (Tells → Scanned seen gate offsets) → (Tells → get_or seen gate 0 ≡ 1) → (Tells → gate < length seen) → (Tells → 6 ≤ length seen) → ExplainsCut Tells seen_now gate middle now stop → ExplainsLoad Tells seen before now stop
+explains_walk Tells seen seen_now offsets gate before middle now no_log same kept was opened within six why = absurd why
+explains_walk Tells seen seen_now offsets gate before middle now (short at) same kept was opened within six why =
+    (λ tells. rw (why.0) (short_at seen gate offsets (was tells) (opened tells) (within tells) (six tells) (rw (kept tells) at (why.1 tells))), why.2 ∙ same)
+explains_walk Tells seen seen_now offsets gate before middle now disk_fault same kept was opened within six why = omega arith
+explains_walk Tells seen seen_now offsets gate before middle now out_of_memory same kept was opened within six why = absurd why
 
 pub pushed_is : {T E : Type 0} (r : Result T E) (x : T) (old new : List ℕ) (y : ℕ) → r ≡ Ok x → new ≡ (if is_ok r then old ++ y ∷ [] else old) → new ≡ old ++ y ∷ []
 pushed_is r x old new y ok e = rw ok at e

@@ -21,6 +21,9 @@ records_inside held view log bodies e was = rw e was
 pub long_inside : {D : Type 0} (held : D → Held) (view log : Log D) → view ≡ log → log.rest + 1 ≡ length (held log.disk).seen → view.rest + 1 ≡ length (held view.disk).seen
 long_inside held view log e was = rw e was
 
+pub strays_outside : {D : Type 0} (strays : D → ℕ) (view log : Log D) (now : ℕ) → view ≡ log → now ≡ strays view.disk → now ≡ strays log.disk
+strays_outside strays view log now e stays = rw e at stays
+
 pub leaves_outside : {D : Type 0} (held : D → Held) (view log : Log D) (new : Held) (P : List ℕ → Type 0) → view ≡ log → CrashLeaves P (held view.disk) new → CrashLeaves P (held log.disk) new
 leaves_outside held view log new P e leaves = rw e at leaves
 

@@ -1,26 +1,9 @@
 use Rattle.std.proofs.Common.{◌≡◌, ℕ, List, length, Result, Ok, Err, OnOk, OnErr, refl, inl, inr}
 use Rattle.scitt_disk.specs.Images.{Held, CrashLeaves}
+use Rattle.scitt_disk.specs.Leaves.{leaves_then}
 use Rattle.scitt_disk.specs.Changes.{after_write, after_sync, AfterFailedWrite}
 use Rattle.scitt_disk.specs.Laws.{FailureKeepsImages, FailureMayWrite, EpochHasAll, WriteGoesOn, FailedWriteGoesOn, SyncGoesOn, StretchesJoin}
 use Rattle.scitt_journal.specs.State.{MayLeave}
-
--- a weaker fact of each image
-pub leaves_weaker : (P Q : List ℕ → Type 0) (old new : Held) → ((image : List ℕ) → P image → Q image) → CrashLeaves P old new → CrashLeaves Q old new
-leaves_weaker P Q old new weaker was =
-    record {
-      continues = was.continues;
-      images = λ image since. weaker image (was.images image since);
-    }
-
--- one stretch of time after another
-pub leaves_then : StretchesJoin → (P : List ℕ → Type 0) (first middle last : Held) → CrashLeaves P first middle → CrashLeaves P middle last → CrashLeaves P first last
-leaves_then joined P first middle last one two =
-    let whole = joined first middle last one.continues two.continues in
-    record {
-      continues = whole.0;
-      images = λ image since.
-          elim (whole.1 image since) [ inl early ↦ one.images image early | inr late ↦ two.images image late ];
-    }
 
 -- a write, a sync, and the one after the other
 write_leaves : EpochHasAll → WriteGoesOn → (at : ℕ) (bytes : List ℕ) (old : Held) → CrashLeaves (MayLeave at bytes old) old (after_write at bytes old)

@@ -8,28 +8,29 @@ use Rattle.scitt_journal.specs.declared.stops.CreateStop.TheVariants.{LogExists 
 use Rattle.scitt_journal.specs.declared.stops.LoadStop.{LoadStop}
 use Rattle.scitt_journal.specs.declared.stops.LoadStop.TheVariants.{NoLog as no_log, Short as short, DiskFault as disk_fault, OutOfMemory as out_of_memory}
 
--- why a file of these bytes wasn't loaded, where the disk tells, and its counts of faults before and now
+-- why a file of these bytes wasn't loaded, where the disk tells, and its counts of faults before and now: but for a fault
+-- the count stays
 abbrev pub ExplainsLoad : Type 0 → List ℕ → ℕ → ℕ → LoadStop → Type 0
-ExplainsLoad Tells bytes before now no_log = Tells → NoLog bytes
-ExplainsLoad Tells bytes before now (short at) = Tells → Short bytes at
+ExplainsLoad Tells bytes before now no_log = (Tells → NoLog bytes) × (now ≡ before)
+ExplainsLoad Tells bytes before now (short at) = (Tells → Short bytes at) × (now ≡ before)
 ExplainsLoad Tells bytes before now disk_fault = Rose before now
-ExplainsLoad Tells bytes before now out_of_memory = Unit {0}
+ExplainsLoad Tells bytes before now out_of_memory = now ≡ before
 
 -- why a journal wasn't created on a file of these bytes
 abbrev pub ExplainsCreate : Type 0 → List ℕ → ℕ → ℕ → CreateStop → Type 0
-ExplainsCreate Tells bytes before now log_exists = Tells → (6 ≤ length bytes) × (slice_index bytes 0 ≡ 1)
+ExplainsCreate Tells bytes before now log_exists = (Tells → (6 ≤ length bytes) × (slice_index bytes 0 ≡ 1)) × (now ≡ before)
 ExplainsCreate Tells bytes before now create_fault = Rose before now
-ExplainsCreate Tells bytes before now create_memory = Unit {0}
+ExplainsCreate Tells bytes before now create_memory = now ≡ before
 
 -- why a body wasn't read
 abbrev pub ExplainsBody : ℕ → ℕ → BodyStop → Type 0
 ExplainsBody before now read_fault = Rose before now
-ExplainsBody before now read_memory = Unit {0}
+ExplainsBody before now read_memory = now ≡ before
 
 -- why there is no next gate
 abbrev pub ExplainsCut : Type 0 → List ℕ → ℕ → ℕ → ℕ → LoadStop → Type 0
 ExplainsCut Tells bytes gate before now no_log = ⊥
-ExplainsCut Tells bytes gate before now (short at) = (at ≡ gate) × (Tells → Cut (drop (gate + 1) bytes))
+ExplainsCut Tells bytes gate before now (short at) = (at ≡ gate) × (Tells → Cut (drop (gate + 1) bytes)) × (now ≡ before)
 ExplainsCut Tells bytes gate before now disk_fault = Rose before now
 ExplainsCut Tells bytes gate before now out_of_memory = ⊥
 

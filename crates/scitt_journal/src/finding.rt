@@ -34,6 +34,7 @@ pub fn read_byte<D: Disk>(disk: &mut D, at: u64) -> Result<u8, DiskFault>
     ensures byte { IfOk result (λ byte. IsTrue D.tells → byte ≡ slice_index (D.held disk.old).seen at) }
     ensures kept { IsTrue D.tells → D.held disk.new ≡ D.held disk.old }
     ensures cause { HasCause (D.fault_count disk.old) (D.fault_count disk.new) result }
+    ensures in_range { IsTrue D.tells → at < length (D.held disk.old).seen → D.strays disk.new ≡ D.strays disk.old }
     ensures same { D.same disk.old disk.new }
 {
     let mut byte = [0; 1];
@@ -49,6 +50,7 @@ fn read_size<D: Disk>(disk: &mut D, at: u64) -> Result<u32, DiskFault>
         → size_bytes size ≡ take 4 (drop at (D.held disk.old).seen)) }
     ensures kept { IsTrue D.tells → D.held disk.new ≡ D.held disk.old }
     ensures cause { HasCause (D.fault_count disk.old) (D.fault_count disk.new) result }
+    ensures in_range { IsTrue D.tells → at + 4 ≤ length (D.held disk.old).seen → D.strays disk.new ≡ D.strays disk.old }
     ensures same { D.same disk.old disk.new }
 {
     let mut bytes = [0; 4];
@@ -77,6 +79,8 @@ fn next_gate<D: Disk>(disk: &mut D, gate: u64, len: u64) -> Result<u64, LoadStop
         (D.fault_count disk.old) (D.fault_count disk.new)) }
     ensures kept { IsTrue D.tells → D.held disk.new ≡ D.held disk.old }
     ensures later { D.fault_count disk.old ≤ D.fault_count disk.new }
+    ensures counted { OnOk result (D.fault_count disk.new ≡ D.fault_count disk.old) }
+    ensures strays { IsTrue D.tells → D.strays disk.new ≡ D.strays disk.old }
     ensures same { D.same disk.old disk.new }
 {
     let left = len - gate - 1;
@@ -98,11 +102,14 @@ fn walk<D: Disk>(alloc: Global, disk: &mut D, len: u64, buffer: Vec<u8>) -> Resu
     ensures finds { IfOk result (λ found. IsTrue D.tells
         → Finds (D.held disk.old).seen found.offsets.items found.gate found.rest) }
     ensures bound { IfOk result (λ found. found.gate ≤ vec_len found.offsets * 4294967300) }
+    ensures some { IfOk result (λ found. 0 < vec_len found.offsets) }
     ensures buffer { IfOk result (λ found. found.buffer ≡ buffer) }
     ensures stops { IfErr result (ExplainsLoad
         (IsTrue D.tells) (D.held disk.old).seen (D.fault_count disk.old) (D.fault_count disk.new)) }
     ensures kept { IsTrue D.tells → D.held disk.new ≡ D.held disk.old }
     ensures later { D.fault_count disk.old ≤ D.fault_count disk.new }
+    ensures counted { OnOk result (D.fault_count disk.new ≡ D.fault_count disk.old) }
+    ensures strays { IsTrue D.tells → D.strays disk.new ≡ D.strays disk.old }
     ensures same { D.same disk.old disk.new }
 {
     let mut offsets = Vec::new(alloc);
@@ -127,6 +134,7 @@ pub fn find_records<D: Disk>(alloc: Global, disk: &mut D) -> Result<Found, LoadS
     ensures finds { IfOk result (λ found. IsTrue D.tells
         → Finds (D.held disk.old).seen found.offsets.items found.gate found.rest) }
     ensures bound { IfOk result (λ found. found.gate ≤ vec_len found.offsets * 4294967300) }
+    ensures some { IfOk result (λ found. 0 < vec_len found.offsets) }
     ensures room { IfOk result (λ found. 5 ≤ vec_capacity found.buffer) }
     ensures synced { OnOk result (IsTrue D.tells → D.held disk.new ≡ after_sync (D.held disk.old)) }
     ensures nothing_written { IsTrue D.tells
@@ -134,6 +142,8 @@ pub fn find_records<D: Disk>(alloc: Global, disk: &mut D) -> Result<Found, LoadS
     ensures stops { IfErr result (ExplainsLoad
         (IsTrue D.tells) (D.held disk.old).seen (D.fault_count disk.old) (D.fault_count disk.new)) }
     ensures later { D.fault_count disk.old ≤ D.fault_count disk.new }
+    ensures counted { OnOk result (D.fault_count disk.new ≡ D.fault_count disk.old) }
+    ensures strays { IsTrue D.tells → D.strays disk.new ≡ D.strays disk.old }
     ensures same { D.same disk.old disk.new }
 {
     let buffer = Vec::with_capacity(alloc, 5)?;
@@ -171,6 +181,8 @@ pub fn prepare<D: Disk>(alloc: Global, disk: &mut D, len: usize) -> Result<Prepa
         (IsTrue D.tells) (D.held disk.old).seen (D.fault_count disk.old) (D.fault_count disk.new)) }
     ensures memory { IsErrOf result CreateStop.OutOfMemory → disk.new ≡ disk.old }
     ensures later { D.fault_count disk.old ≤ D.fault_count disk.new }
+    ensures counted { OnOk result (D.fault_count disk.new ≡ D.fault_count disk.old) }
+    ensures strays { IsTrue D.tells → D.strays disk.new ≡ D.strays disk.old }
     ensures same { D.same disk.old disk.new }
 {
     let offsets = Vec::with_capacity(alloc, 1)?;
@@ -204,6 +216,8 @@ fn begin<D: Disk>(disk: &mut D) -> Result<u64, CreateStop>
         (IsTrue D.tells) (D.held disk.old).seen (D.fault_count disk.old) (D.fault_count disk.new)) }
     ensures no_memory { IsErrOf result CreateStop.OutOfMemory → ⊥ }
     ensures later { D.fault_count disk.old ≤ D.fault_count disk.new }
+    ensures counted { OnOk result (D.fault_count disk.new ≡ D.fault_count disk.old) }
+    ensures strays { IsTrue D.tells → D.strays disk.new ≡ D.strays disk.old }
     ensures same { D.same disk.old disk.new }
 {
     disk.sync()?;
@@ -245,6 +259,9 @@ pub fn read_body<D: Disk>(
     ensures stops { IfErr result (ExplainsBody (D.fault_count disk.old) (D.fault_count disk.new)) }
     ensures kept { IsTrue D.tells → D.held disk.new ≡ D.held disk.old }
     ensures later { D.fault_count disk.old ≤ D.fault_count disk.new }
+    ensures counted { OnOk result (D.fault_count disk.new ≡ D.fault_count disk.old) }
+    ensures in_range { IsTrue D.tells → start + (end - start) ≤ length (D.held disk.old).seen
+        → D.strays disk.new ≡ D.strays disk.old }
     ensures same { D.same disk.old disk.new }
 {
     let len = end.saturating_sub(start) as usize;

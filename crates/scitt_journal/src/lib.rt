@@ -4,10 +4,13 @@
 
 mod finding;
 mod laws;
+mod ledger;
 mod record;
+mod records;
 mod steps;
 mod stops;
 
 pub use laws::{crash_laws, journal_laws};
+pub use ledger::Ledger;
 pub use record::Journal;
 pub use stops::{BodyStop, CreateStop, LoadStop, Refused};

@@ -90,7 +90,9 @@ impl<D: Disk> Journal<D> {
         ensures memory { IfErr result (λ refused. refused.why ≡ CreateStop.OutOfMemory
             → refused.disk ≡ disk) }
         ensures later { IfErr result (λ refused. D.fault_count disk ≤ D.fault_count refused.disk) }
-        ensures later_ok { IfOk result (λ journal. D.fault_count disk ≤ D.fault_count journal.disk) }
+        ensures counted { IfOk result (λ journal. D.fault_count journal.disk ≡ D.fault_count disk) }
+        ensures strays { IfOk result (λ journal. IsTrue D.tells → D.strays journal.disk ≡ D.strays disk) }
+        ensures strays_refused { IfErr result (λ refused. IsTrue D.tells → D.strays refused.disk ≡ D.strays disk) }
         ensures same { IfOk result (λ journal. D.same disk journal.disk) }
         ensures same_refused { IfErr result (λ refused. D.same disk refused.disk) }
     {
@@ -128,8 +130,9 @@ impl<D: Disk> Journal<D> {
     /// Begins with a sync, and finds the records.
     ///
     /// `NoLog` where the file has fewer than six bytes or the first isn't 1; `Short` where an open gate has no whole
-    /// record behind it, with the place of the first such gate; `DiskFault` where the disk's count of faults rose; `OutOfMemory`. The room is 0
-    /// and no place is left: `reserve_buffer` comes before the first `append`.
+    /// record behind it, with the place of the first such gate; `DiskFault` where the disk's count of faults rose; `OutOfMemory`. Nothing is
+    /// written: a crash meanwhile leaves nothing but what one before might have left. The room is 0 and no place is left:
+    /// `reserve_buffer` comes before the first `append`.
     pub fn load(alloc: Global, disk: D) -> Result<Journal<D>, Refused<D, LoadStop>>
         ensures loaded { IfOk result (λ journal. IsTrue D.tells
             → Loaded D.held (D.held disk).seen journal) }
@@ -141,12 +144,21 @@ impl<D: Disk> Journal<D> {
             (D.fault_count disk) (D.fault_count refused.disk) refused.why) }
         ensures nothing_written { IfErr result (λ refused. IsTrue D.tells
             → (D.held refused.disk ≡ D.held disk) ⊎ (D.held refused.disk ≡ after_sync (D.held disk))) }
+        ensures images { IfOk result (λ journal. IsTrue D.tells
+            → CrashLeaves (ImageNow (D.held disk)) (D.held disk) (D.held journal.disk)) }
+        ensures images_refused { IfErr result (λ refused. IsTrue D.tells
+            → CrashLeaves (ImageNow (D.held disk)) (D.held disk) (D.held refused.disk)) }
+        ensures some { IfOk result (λ journal. 0 < journal.count) }
         ensures room { IfOk result (λ journal. journal.room ≡ 0) }
+        ensures places { IfOk result (λ journal. journal.places ≡ 0) }
         ensures later { IfErr result (λ refused. D.fault_count disk ≤ D.fault_count refused.disk) }
-        ensures later_ok { IfOk result (λ journal. D.fault_count disk ≤ D.fault_count journal.disk) }
+        ensures counted { IfOk result (λ journal. D.fault_count journal.disk ≡ D.fault_count disk) }
+        ensures strays { IfOk result (λ journal. IsTrue D.tells → D.strays journal.disk ≡ D.strays disk) }
+        ensures strays_refused { IfErr result (λ refused. IsTrue D.tells → D.strays refused.disk ≡ D.strays disk) }
         ensures same { IfOk result (λ journal. D.same disk journal.disk) }
         ensures same_refused { IfErr result (λ refused. D.same disk refused.disk) }
     {
+        moment_laws();
         let mut disk = disk;
         match find_records(alloc, &mut disk) {
             Err(why) => Err(Refused { disk, why }),
@@ -185,7 +197,16 @@ impl<D: Disk> Journal<D> {
             (D.fault_count self.old.disk) (D.fault_count self.new.disk)) }
         ensures kept { IsTrue D.tells → D.held self.new.disk ≡ D.held self.old.disk }
         ensures others { self.new ≡ record self.old { disk = self.new.disk } }
+        ensures still_at_rest { (bodies : List (List ℕ)) → IsTrue D.tells → AtRest D.held self.old bodies
+            → AtRest D.held self.new bodies }
+        ensures still_in_doubt { (bodies : List (List ℕ)) (body : List ℕ) → IsTrue D.tells
+            → InDoubt D.held self.old bodies body → InDoubt D.held self.new bodies body }
         ensures later { D.fault_count self.old.disk ≤ D.fault_count self.new.disk }
+        ensures counted { OnOk result (D.fault_count self.new.disk ≡ D.fault_count self.old.disk) }
+        ensures strays { (bodies : List (List ℕ)) → IsTrue D.tells → AtRest D.held self.old bodies
+            → D.strays self.new.disk ≡ D.strays self.old.disk }
+        ensures strays_in_doubt { (bodies : List (List ℕ)) (body : List ℕ) → IsTrue D.tells
+            → InDoubt D.held self.old bodies body → D.strays self.new.disk ≡ D.strays self.old.disk }
         ensures same { D.same self.old.disk self.new.disk }
     {
         let (start, end) = bounds(&self.offsets, self.gate, number as usize);
@@ -250,12 +271,17 @@ impl<D: Disk> Journal<D> {
         disk
     }
 
-    /// Grows `room` to `len` where it is less, and reserves places for two more records. Want of memory leaves the journal as it was.
+    /// Grows `room` to `len` where it is less, and reserves places for two more records. Want of memory leaves the journal
+    /// as it was. The disk isn't touched.
     pub fn reserve_buffer(&mut self, len: usize) -> Result<(), AllocError>
         ensures room { OnOk result (self.new.room ≡ max self.old.room len) }
         ensures places { OnOk result (self.new.places ≡ max self.old.places 2) }
         ensures as_before { self.new ≡ record self.old { room = self.new.room; places = self.new.places } }
         ensures failed { OnErr result (self.new ≡ self.old) }
+        ensures still_at_rest { (bodies : List (List ℕ)) → AtRest D.held self.old bodies
+            → AtRest D.held self.new bodies }
+        ensures still_in_doubt { (bodies : List (List ℕ)) (body : List ℕ)
+            → InDoubt D.held self.old bodies body → InDoubt D.held self.new bodies body }
     {
         self.offsets.reserve(self.places.max(2))?;
         let capacity = len.checked_add(5).ok_or(AllocError)?;
@@ -315,6 +341,8 @@ impl<D: Disk> Journal<D> {
         ensures kept { OnErr result (self.new
             ≡ record self.old { disk = self.new.disk; needs_repair = self.new.needs_repair }) }
         ensures cause { HasCause (D.fault_count self.old.disk) (D.fault_count self.new.disk) result }
+        ensures strays { (bodies : List (List ℕ)) → IsTrue D.tells → AtRest D.held self.old bodies
+            → D.strays self.new.disk ≡ D.strays self.old.disk }
         ensures same { D.same self.old.disk self.new.disk }
     {
         moment_laws();
@@ -349,6 +377,8 @@ impl<D: Disk> Journal<D> {
         ensures still { OnErr result (self.new.needs_repair ≡ true) }
         ensures others { self.new ≡ record self.old { disk = self.new.disk; needs_repair = self.new.needs_repair } }
         ensures cause { HasCause (D.fault_count self.old.disk) (D.fault_count self.new.disk) result }
+        ensures strays { (bodies : List (List ℕ)) (body : List ℕ) → IsTrue D.tells
+            → InDoubt D.held self.old bodies body → D.strays self.new.disk ≡ D.strays self.old.disk }
         ensures same { D.same self.old.disk self.new.disk }
     {
         if !self.needs_repair {

@@ -22,6 +22,7 @@ pub fn write_and_sync<D: Disk>(disk: &mut D, at: u64, bytes: &[u8]) -> Result<()
     ensures any_moment { IsTrue D.tells → CrashLeaves
         (MayLeave at bytes.now (D.held disk.old)) (D.held disk.old) (D.held disk.new) }
     ensures cause { HasCause (D.fault_count disk.old) (D.fault_count disk.new) result }
+    ensures in_range { IsTrue D.tells → at ≤ length (D.held disk.old).seen → D.strays disk.new ≡ D.strays disk.old }
     ensures same { D.same disk.old disk.new }
 {
     image_laws();

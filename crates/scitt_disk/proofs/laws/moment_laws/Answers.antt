@@ -1,5 +1,5 @@
 use Rattle.scitt_disk.specs.Images.{moment}
-use Rattle.scitt_disk.proofs.Moments.{moment_later, continues_self, continues_write, continues_failed, continues_sync, continues_then, since_earlier, within_epoch, through_sync}
+use Rattle.scitt_disk.proofs.Moments.{moment_later, continues_self, continues_write, continues_failed, continues_sync, continues_then, since_earlier, within_epoch, through_sync, inside_since}
 use Rattle.scitt_disk.proofs.laws.moment_laws.Goals as goal
 
 pub returns : goal.returns
@@ -14,4 +14,5 @@ returns c =
           (continues_then first middle last one two, λ image since. since_earlier middle last (moment first) image two (moment_later first middle one) since);
       earlier = since_earlier;
       rise = moment_later;
+      inside = inside_since;
     }

@@ -11,7 +11,7 @@ returns-in_err-next-clause-stops g c =
     let was = c.records.invariant in
     let seen = (held c.args.disk.now).seen in
     let p = err_from_is_err_and c.from_residual.result c.from_residual.ensures.1 in
-    rw (p.1, p.2) (explains_walk (IsTrue g.D.Disk.tells) seen (held c.records.disk).seen c.records.offsets.items c.records.gate (g.D.Disk.fault_count c.args.disk.now) (g.D.Disk.fault_count c.records.disk) (g.D.Disk.fault_count c.next_gate.new.disk) c.in_err-next.field-0.0 was.later (λ tells. ap (λ state. state.seen) (was.kept tells)) was.scanned was.opened (λ tells. omega (arith, was.within, c.requires.long tells)) (λ tells. omega (arith, c.requires.six, c.requires.long tells)) c.in_err-next.ensures.stops)
+    rw (p.1, p.2) (explains_walk (IsTrue g.D.Disk.tells) seen (held c.records.disk).seen c.records.offsets.items c.records.gate (g.D.Disk.fault_count c.args.disk.now) (g.D.Disk.fault_count c.records.disk) (g.D.Disk.fault_count c.next_gate.new.disk) c.in_err-next.field-0.0 was.count (λ tells. ap (λ state. state.seen) (was.kept tells)) was.scanned was.opened (λ tells. omega (arith, was.within, c.requires.long tells)) (λ tells. omega (arith, c.requires.six, c.requires.long tells)) c.in_err-next.ensures.stops)
 
 pub returns-then-branch-ne-OPEN-clause-finds : goal.returns-then-branch-ne-OPEN-clause-finds
 returns-then-branch-ne-OPEN-clause-finds g c = λ tells.
@@ -37,7 +37,9 @@ records-preserved g c =
       bound = omega (arith, was.bound, c.in_ok-next.ensures.near, c.in_ok-push.ensures.len);
       kept = λ tells.
           c.read_byte.ensures.kept tells ∙ c.next_gate.ensures.kept tells ∙ was.kept tells;
-      later = omega (arith, was.later, c.next_gate.ensures.later, c.read_byte.ensures.cause.later);
+      count = c.in_ok-read_byte.ensures.cause.kept ∙ c.in_ok-next.ensures.counted ∙ was.count;
+      strays = λ tells.
+          c.read_byte.ensures.in_range tells (omega (arith, c.in_ok-next.ensures.within, c.requires.long tells, ap (λ state. length state.seen) (c.next_gate.ensures.kept tells ∙ was.kept tells))) ∙ c.next_gate.ensures.strays tells ∙ was.strays tells;
       same = g.met.D.Disk.same_then _ _ _ (g.met.D.Disk.same_then _ _ _ was.same c.next_gate.ensures.same) c.read_byte.ensures.same;
       scanned = λ tells.
           let whole : IsWhole seen c.records.gate c.in_ok-next.next = rw (was.kept tells) at (c.in_ok-next.ensures.whole tells) in

@@ -8,7 +8,8 @@ invariant-records g l =
       within : l.gate < l.len;
       bound : l.gate ≤ vec_len l.offsets * 4294967300;
       kept : IsTrue g.D.Disk.tells → g.D.Disk.held l.disk ≡ g.D.Disk.held l.fn.disk;
-      later : g.D.Disk.fault_count l.fn.disk ≤ g.D.Disk.fault_count l.disk;
+      count : g.D.Disk.fault_count l.disk ≡ g.D.Disk.fault_count l.fn.disk;
+      strays : IsTrue g.D.Disk.tells → g.D.Disk.strays l.disk ≡ g.D.Disk.strays l.fn.disk;
       same : g.D.Disk.same l.fn.disk l.disk;
       scanned : IsTrue g.D.Disk.tells → Scanned (g.D.Disk.held l.fn.disk).seen l.gate l.offsets.items;
       opened : IsTrue g.D.Disk.tells → slice_index (g.D.Disk.held l.fn.disk).seen l.gate ≡ 1;

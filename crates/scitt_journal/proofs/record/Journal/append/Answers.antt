@@ -1,5 +1,5 @@
 use Rattle.std.proofs.Common.{◌≡◌, ◌+◌, ◌++◌, ◌∷◌, [], length, ◌∙◌, inl, arith}
-use Rattle.scitt_journal.proofs.Stretches.{leaves_then, leaves_weaker}
+use Rattle.scitt_disk.specs.Leaves.{leaves_then, leaves_weaker}
 use Rattle.scitt_journal.specs.Layout.{OneOf, starts}
 use Rattle.scitt_journal.specs.State.{Closed, MayLeave}
 use Rattle.scitt_journal.proofs.Stages.{closed_now, record_may_leave, record_failed, gate_may_leave, gate_failed, gate_opened, records_after, records_long}

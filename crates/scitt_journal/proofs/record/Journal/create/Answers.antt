@@ -1,6 +1,6 @@
 use Rattle.std.proofs.Common.{[], length, refl, ap, inl}
 use Rattle.scitt_disk.specs.Changes.{after_sync}
-use Rattle.scitt_journal.proofs.Stretches.{leaves_then, leaves_weaker}
+use Rattle.scitt_disk.specs.Leaves.{leaves_then, leaves_weaker}
 use Rattle.scitt_journal.specs.Layout.{NoLog, OneOf}
 use Rattle.scitt_journal.proofs.record.Journal.create.Goals as goal
 

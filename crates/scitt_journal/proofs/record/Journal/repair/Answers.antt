@@ -1,5 +1,5 @@
 use Rattle.std.proofs.Common.{◌∷◌, []}
-use Rattle.scitt_journal.proofs.Stretches.{leaves_weaker}
+use Rattle.scitt_disk.specs.Leaves.{leaves_weaker}
 use Rattle.scitt_journal.specs.Layout.{OneOf}
 use Rattle.scitt_journal.specs.State.{MayLeave}
 use Rattle.scitt_journal.proofs.Stages.{gate_may_leave, gate_failed, gate_closed}
