@@ -3,8 +3,11 @@ use scitt_io::{
     FileFolder, Folder, MemFolder, MemSink, MemSource, ReadStop, Sink, Source, StdSink, SureSink,
     SureSource, Words, WriteFault, read_to_end, write_all,
 };
-use std::fs;
+use std::cell::Cell;
+use std::fmt::Display;
+use std::io::{ErrorKind, Print};
 use std::test::Fail;
+use std::{fs, io};
 
 #[test]
 fn reads_to_the_limit(rt: HostRuntime) -> Result<(), Fail> {
@@ -91,11 +94,103 @@ fn reads_real_files(rt: HostRuntime) -> Result<(), Fail> {
         b"bytes".as_slice()
     );
     assert!(rt; files.choose("missing").is_err());
+    assert_eq!(rt; files.read(&mut buf).ok(), Some(0));
     assert!(rt; files.choose(".").is_ok());
     assert!(rt; files.read(&mut buf).is_err());
     let mut out = StdSink::new(&rt);
     assert_eq!(rt; write_all(&mut out, b"").ok(), Some(()));
     assert_eq!(rt; write_all(&mut out, b"a line of a test\n").ok(), Some(()));
+    Ok(())
+}
+
+// What was being read goes on after a choice that failed, and a file that is chosen again begins anew.
+#[test]
+fn goes_on_after_a_failed_choice(rt: HostRuntime) -> Result<(), Fail> {
+    fs::write(&rt, "front", "abcdef")?;
+    let mut files = FileFolder::new(&rt);
+    let mut buf = [0; 2];
+    assert!(rt; files.choose("front").is_ok());
+    for want in [b"ab", b"cd"] {
+        assert_eq!(rt; files.read(&mut buf).ok(), Some(2));
+        assert_eq!(rt; buf, *want);
+        assert!(rt; files.choose("missing").is_err());
+    }
+    assert!(rt; files.choose("front").is_ok());
+    assert_eq!(rt;
+        read_to_end(rt.alloc(), &mut files, 6)?.as_slice(),
+        b"abcdef".as_slice()
+    );
+    Ok(())
+}
+
+/// An output whose first calls answer as listed: a count of bytes, or none for an error; the later ones take all.
+#[derive(Drop)]
+struct Listed<'a> {
+    answers: &'a [Result<usize, ErrorKind>],
+    calls: &'a Cell<usize>,
+}
+
+impl Print for Listed<'_> {
+    fn print<D: Display + Drop>(&self, _value: D) -> io::Result<()> {
+        Ok(())
+    }
+
+    fn println<D: Display + Drop>(&self, _value: D) -> io::Result<()> {
+        Ok(())
+    }
+
+    fn write_all(&self, _bytes: &[u8]) -> io::Result<()> {
+        Ok(())
+    }
+
+    fn write_some(&self, bytes: &[u8]) -> io::Result<usize> {
+        let call = self.calls.get();
+        self.calls.set(call.saturating_add(1));
+        match self.answers.get(call) {
+            None => Ok(bytes.len()),
+            Some(Ok(count)) => Ok((*count).min(bytes.len())),
+            Some(Err(kind)) => Err(io::Error::from(*kind)),
+        }
+    }
+}
+
+// A signal is tried through, and every other error is a fault, as is an output that takes nothing.
+#[test]
+fn tells_a_refused_write(rt: HostRuntime) -> Result<(), Fail> {
+    let again = Err(ErrorKind::Interrupted);
+    let calls = Cell::new(0);
+    let answers = [again, again, Ok(1), Err(ErrorKind::StorageFull), Ok(0)];
+    let mut out = StdSink::new(Listed {
+        answers: &answers,
+        calls: &calls,
+    });
+    assert_eq!(rt; out.write(b"").ok(), Some(0));
+    assert_eq!(rt; out.write(b"ab").ok(), Some(1));
+    assert_eq!(rt; calls.get(), 3);
+    assert_eq!(rt; out.write(b"b").err(), Some(WriteFault));
+    assert_eq!(rt; out.write(b"b").err(), Some(WriteFault));
+    assert_eq!(rt; write_all(&mut out, b"b").ok(), Some(()));
+    assert_eq!(rt; calls.get(), 6);
+    let answers = [again; 16];
+    calls.set(0);
+    let mut out = StdSink::new(Listed {
+        answers: &answers,
+        calls: &calls,
+    });
+    assert_eq!(rt; write_all(&mut out, b"b").err(), Some(WriteFault));
+    assert_eq!(rt; calls.get(), 16);
+    Ok(())
+}
+
+// More than the first room for an input, and one byte a read.
+#[test]
+fn reads_long_inputs(rt: HostRuntime) -> Result<(), Fail> {
+    let mut bytes = Vec::new(rt.alloc());
+    for i in 0..200_000u32 {
+        bytes.push((i % 251) as u8)?;
+    }
+    let mut source = SureSource::new(bytes.clone()?);
+    assert_eq!(rt; read_to_end(rt.alloc(), &mut source, 1_000_000)?, bytes);
     Ok(())
 }
 

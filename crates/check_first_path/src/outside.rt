@@ -1,8 +1,8 @@
 //! What the tool answers where the outside refuses a call, and where it gives or takes one byte at a time.
-ghost use Rattle.std.specs.Prelude.{None};
+ghost use Rattle.std.specs.Prelude.{None, ◌≡◌};
 
 use crate::runs::{folder, run, words};
-use scitt_io::{Folder, MemSink, ReadFault, Sink, Source, SureFolder, SureSink, WriteFault};
+use scitt_io::{Folder, MemSink, Names, ReadFault, Sink, Source, SureFolder, SureSink, WriteFault};
 use scitt_tool::run_tool;
 use std::test::Fail;
 
@@ -123,6 +123,7 @@ fn writes_a_part_of_the_text(rt: HostRuntime) -> Result<(), Fail> {
 struct Drip {
     bytes: Vec<u8>,
     at: usize,
+    asked: Names,
 }
 
 impl Source for Drip {
@@ -130,11 +131,13 @@ impl Source for Drip {
 
     ghost faults = { λ _. 0 };
 
-    ghost read_keeps = { λ _ _. Unit {0} };
+    ghost read_keeps = { λ a b. b.asked ≡ a.asked };
 
-    ghost read_keeps_self = { λ _. tt };
+    ghost use Rattle.std.proofs.Common.{refl, ◌∙◌};
 
-    ghost read_keeps_then = { λ _ _ _ _ _. tt };
+    ghost read_keeps_self = { λ _. refl };
+
+    ghost read_keeps_then = { λ _ _ _ p q. q ∙ p };
 
     fn read(&mut self, buf: &mut [u8]) -> Result<usize, ReadFault> {
         if buf.is_empty() || self.at >= self.bytes.len() {
@@ -149,11 +152,16 @@ impl Source for Drip {
 impl Folder for Drip {
     ghost files = { λ _. None };
 
+    ghost asked = { λ d. d.asked };
+
     ghost use Rattle.std.proofs.Common.{refl};
 
     ghost files_kept = { λ _ _ _. refl };
 
-    fn choose(&mut self, _name: &str) -> Result<(), ReadFault> {
+    ghost asked_kept = { λ _ _ same. same };
+
+    fn choose(&mut self, name: &str) -> Result<(), ReadFault> {
+        self.asked.add(name);
         self.at = 0;
         Ok(())
     }
@@ -164,6 +172,7 @@ fn reads_a_byte_at_a_time(rt: HostRuntime) -> Result<(), Fail> {
     let mut files = Drip {
         bytes: Vec::from_slice(rt.alloc(), &[0x81, 0x43, 1, 2, 3])?,
         at: 5,
+        asked: Names::new(),
     };
     let mut out = MemSink::new(rt.alloc(), Vec::new(rt.alloc()));
     let status = run_tool(

@@ -1,43 +1,18 @@
 //! The program `scitt`: its words, real files and standard output, handed to `run_tool`.
 #![tactic(auto)]
 
-ghost use Rattle.std.specs.Prelude.{◌≡◌, ◌⊎◌, IfErr};
+mod ends;
+mod given;
 
-use scitt_io::{FileFolder, StdSink, Words};
-use scitt_tool::{Status, run_tool};
+use ends::{exit_code, status_of};
+use given::words_given;
+use scitt_io::{FileFolder, StdSink};
 use std::env;
-use std::io::ErrorKind;
 use std::process::ExitCode;
 
-/// A word isn't UTF-8.
-const WORDS_REFUSED: Status = 2;
-
-/// There is no memory for the words.
-const NO_MEMORY: Status = 5;
-
 fn main(rt: HostRuntime) -> ExitCode {
-    let status = match words(&rt) {
-        Ok(words) => {
-            let mut files = FileFolder::new(&rt);
-            let mut out = StdSink::new(&rt);
-            run_tool(rt.alloc(), &words, &mut files, &mut out)
-        }
-        Err(status) => status,
-    };
-    ExitCode::from(status)
-}
-
-/// The words behind the program's name, else the status to end with.
-fn words(rt: &HostRuntime) -> Result<Words, Status>
-    ensures { IfErr result (λ status. (status ≡ 2) ⊎ (status ≡ 5)) }
-{
-    let args = env::args(rt).map_err(|error| match error.kind() {
-        ErrorKind::OutOfMemory => NO_MEMORY,
-        _ => WORDS_REFUSED,
-    })?;
-    let mut words = Words::new(rt.alloc());
-    for word in args.skip(1) {
-        words.push(word.as_str()).map_err(|_| NO_MEMORY)?;
-    }
-    Ok(words)
+    let words = words_given(rt.alloc(), env::args(&rt));
+    let mut files = FileFolder::new(&rt);
+    let mut out = StdSink::new(&rt);
+    exit_code(status_of(rt.alloc(), words, &mut files, &mut out))
 }

@@ -12,13 +12,15 @@ pub record Output : Type 0 where
   pub taken : List ℕ
   pub plan : Plan
 
--- a folder: its files by name, the bytes that are left of the chosen one, and its failing calls
+-- a folder: its files by name, the bytes that are left of the chosen one, the names that were asked for, and its failing calls
 pub record Files : Type 0 where
   pub files : List (List ℕ × List ℕ)
   pub left : List ℕ
+  pub asked : List (List ℕ)
   pub plan : Plan
 
--- a folder that never fails: its files by name, and the bytes that are left of the chosen one
+-- a folder that never fails: its files by name, the bytes that are left of the chosen one, and the names that were asked for
 pub record SureFiles : Type 0 where
   pub files : List (List ℕ × List ℕ)
   pub left : List ℕ
+  pub asked : List (List ℕ)

@@ -1,4 +1,4 @@
-ghost use Rattle.std.specs.Prelude.{◌≡◌, ℕ, List, OnErr, OnOk, IfSome, is_some};
+ghost use Rattle.std.specs.Prelude.{◌≡◌, ℕ, List, [], ◌∷◌, ◌++◌, OnErr, OnOk, IfSome, is_some};
 ghost use Rattle.std.specs.declared.option.Option.{Option};
 ghost use Rattle.scitt_io.specs.Causes.{HasCause};
 ghost use Rattle.scitt_io.specs.Files.{ReadsFile};
@@ -10,6 +10,9 @@ pub trait Folder: Source {
     // the bytes of the file of each name, where the folder tells its files
     ghost files: { Self → Option (List ℕ → Option (List ℕ)) };
 
+    // the names that were asked for so far, found or not, the first one first
+    ghost asked: { Self → List (List ℕ) };
+
     /// Chooses the file of this name, which reads then give from its first byte on. It is a fault where
     /// there is no such file, and what was being read goes on then. Before any choice reads give nothing.
     fn choose(&mut self, name: &str) -> Result<(), ReadFault>
@@ -17,7 +20,10 @@ pub trait Folder: Source {
         ensures unchosen { OnErr result (Self.left self.new ≡ Self.left self.old) }
         ensures telling { is_some (Self.left self.new) ≡ is_some (Self.left self.old) }
         ensures kept { files self.new ≡ files self.old }
+        ensures asked { asked self.new ≡ asked self.old ++ name.now ∷ [] }
         ensures cause { HasCause (Self.faults self.old) (Self.faults self.new) result };
 
     ghost files_kept: { (a b : Self) → Self.read_keeps a b → files b ≡ files a };
+
+    ghost asked_kept: { (a b : Self) → Self.read_keeps a b → asked b ≡ asked a };
 }

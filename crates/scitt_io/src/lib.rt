@@ -3,6 +3,7 @@
 
 pub mod folder;
 pub mod memory;
+pub mod names;
 pub mod plan;
 pub mod real;
 mod shelf;
@@ -13,9 +14,10 @@ pub mod words;
 
 pub use folder::Folder;
 pub use memory::{MemFolder, MemSink, MemSource};
+pub use names::Names;
 pub use plan::Plan;
 pub use real::{FileFolder, StdSink};
 pub use sink::{Sink, WriteFault, write_all};
-pub use source::{ReadFault, ReadStop, Source, read_to_end};
+pub use source::{ReadFault, ReadStop, Source, read_behind, read_to_end};
 pub use sure::{SureFolder, SureSink, SureSource};
 pub use words::{OutOfMemory, Words};

@@ -1,11 +1,12 @@
 // The memory forms: they tell their content, and fail at the calls that their plan lists.
-ghost use Rattle.std.specs.Prelude.{◌≡◌, ℕ, ◌+◌, ◌↔◌, [], List, length, min, take, drop, IsErr, IsTrue, Some, vec_items, OnOk, OnErr, IfSome, IfOk, None, ◌<◌, is_some, map, ⊤, ◌⊎◌};
+ghost use Rattle.std.specs.Prelude.{◌≡◌, ℕ, ◌+◌, ◌↔◌, [], ◌∷◌, ◌++◌, List, length, min, take, drop, IsErr, IsTrue, Some, vec_items, OnOk, OnErr, IfSome, IfOk, None, ◌<◌, is_some, map, ⊤, ◌⊎◌};
 ghost use Rattle.std.specs.declared.option.Option.{Option};
 ghost use Rattle.std.specs.Io.{ReadsAtMost, WritesAtMost};
 ghost use Rattle.std.specs.Io.KnownBytes.{ReadConsumes, WriteAppends};
 ghost use Rattle.scitt_io.specs.Causes.{HasCause};
 
 use crate::folder::Folder;
+use crate::names::Names;
 use crate::plan::Plan;
 use crate::shelf::{chosen_bytes, give, place_of};
 use crate::sink::{Sink, WriteFault};
@@ -168,6 +169,7 @@ pub struct MemFolder {
     files: Vec<(String, Vec<u8>)>,
     chosen: Option<usize>,
     at: usize,
+    asked: Names,
     plan: Plan,
 }
 
@@ -178,7 +180,7 @@ impl Model for MemFolder {
 
     ghost Value = { Files };
 
-    ghost view = { λ f. record { files = contents f.files.items; left = drop f.at (chosen_bytes f.files.items f.chosen); plan = f.plan } };
+    ghost view = { λ f. record { files = contents f.files.items; left = drop f.at (chosen_bytes f.files.items f.chosen); asked = f.asked; plan = f.plan } };
 
     ghost invariant = { λ f. f.at ≤ length (chosen_bytes f.files.items f.chosen) };
 }
@@ -189,12 +191,13 @@ impl MemFolder {
 
     /// A folder of which no file is chosen yet.
     pub fn new(files: Vec<(String, Vec<u8>)>, fails: Vec<u32>) -> Self
-        ensures { result ≡ record { files = contents files.items; left = []; plan = plan_of fails } }
+        ensures { result ≡ record { files = contents files.items; left = []; asked = []; plan = plan_of fails } }
     {
         MemFolder {
             files,
             chosen: None,
             at: 0,
+            asked: Names::new(),
             plan: Plan::new(fails),
         }
     }
@@ -213,20 +216,20 @@ impl Source for MemFolder {
 
     ghost faults = { λ f. f.plan.faults };
 
-    ghost read_keeps = { λ a b. b.files ≡ a.files };
+    ghost read_keeps = { λ a b. (b.files ≡ a.files) × (b.asked ≡ a.asked) };
 
     ghost use Rattle.std.proofs.Common.{refl, ◌∙◌};
 
-    ghost read_keeps_self = { λ _. refl };
+    ghost read_keeps_self = { λ _. (refl, refl) };
 
-    ghost read_keeps_then = { λ _ _ _ p q. q ∙ p };
+    ghost read_keeps_then = { λ _ _ _ p q. (q.0 ∙ p.0, q.1 ∙ p.1) };
 
     fn read(&mut self, buf: &mut [u8]) -> Result<usize, ReadFault>
         ensures bound { ReadsAtMost result buf.new }
         ensures bytes { ReadConsumes (Some self.old.left) (Some self.new.left) result buf.new }
         ensures telling { is_some (Some self.new.left) ≡ is_some (Some self.old.left) }
         ensures cause { HasCause self.old.plan.faults self.new.plan.faults result }
-        ensures keeps { self.new.files ≡ self.old.files }
+        ensures keeps { (self.new.files ≡ self.old.files) × (self.new.asked ≡ self.old.asked) }
         ensures listed { IsErr result ↔ IsTrue (is_listed self.old.plan) }
         ensures counted { self.new.plan ≡ after_call self.old.plan }
     {
@@ -246,9 +249,13 @@ impl Folder for MemFolder {
 
     ghost files = { λ f. Some (file_named f.files) };
 
+    ghost asked = { λ f. f.asked };
+
     ghost use Rattle.std.proofs.Common.{ap};
 
-    ghost files_kept = { λ _ _ p. ap (λ files. Some (file_named files)) p };
+    ghost files_kept = { λ _ _ p. ap (λ files. Some (file_named files)) p.0 };
+
+    ghost asked_kept = { λ _ _ p. p.1 };
 
     /// It fails at the listed calls, and where no file has this name, which counts as a fault too.
     fn choose(&mut self, name: &str) -> Result<(), ReadFault>
@@ -256,11 +263,13 @@ impl Folder for MemFolder {
         ensures unchosen { OnErr result (Some self.new.left ≡ Some self.old.left) }
         ensures telling { is_some (Some self.new.left) ≡ is_some (Some self.old.left) }
         ensures kept { Some (file_named self.new.files) ≡ Some (file_named self.old.files) }
+        ensures asked { self.new.asked ≡ self.old.asked ++ name.now ∷ [] }
         ensures cause { HasCause self.old.plan.faults self.new.plan.faults result }
         ensures listed { IsErr result ↔ (IsTrue (is_listed self.old.plan) ⊎ (file_named self.old.files name.now ≡ None)) }
         ensures counted { OnOk result (self.new.plan ≡ after_call self.old.plan) }
         ensures refused { OnErr result (self.new.plan ≡ after_refusal self.old.plan) }
     {
+        self.asked.add(name);
         if self.plan.fails_now() {
             return Err(ReadFault);
         }

@@ -2,8 +2,10 @@
 ghost use Rattle.std.specs.Prelude.{◌≡◌, ℕ, List, None};
 ghost use Rattle.std.specs.declared.option.Option.{Option};
 ghost use Rattle.std.specs.Io.{ReadsAtMost};
+ghost use Rattle.std.specs.Io.KnownBytes.{ReadConsumes};
 
 use crate::folder::Folder;
+use crate::names::Names;
 use crate::sink::{Sink, WriteFault};
 use crate::source::{ReadFault, Source};
 use std::io::{ErrorKind, Input, Print, Read};
@@ -26,6 +28,7 @@ pub struct FileFolder<R: Files + Input + Drop> {
     system: R,
     chosen: Chosen<R>,
     faults: u64,
+    asked: Names,
 }
 
 impl<R: Files + Input + Drop> FileFolder<R> {
@@ -37,6 +40,7 @@ impl<R: Files + Input + Drop> FileFolder<R> {
             system,
             chosen: Chosen::Nothing,
             faults: 0,
+            asked: Names::new(),
         }
     }
 }
@@ -46,11 +50,13 @@ impl<R: Files + Input + Drop> Source for FileFolder<R> {
 
     ghost faults = { λ f. f.faults };
 
-    ghost read_keeps = { λ _ _. Unit {0} };
+    ghost read_keeps = { λ a b. b.asked ≡ a.asked };
 
-    ghost read_keeps_self = { λ _. tt };
+    ghost use Rattle.std.proofs.Common.{refl, ◌∙◌};
 
-    ghost read_keeps_then = { λ _ _ _ _ _. tt };
+    ghost read_keeps_self = { λ _. refl };
+
+    ghost read_keeps_then = { λ _ _ _ p q. q ∙ p };
 
     fn read(&mut self, buf: &mut [u8]) -> Result<usize, ReadFault> {
         let answer = match &mut self.chosen {
@@ -69,11 +75,16 @@ impl<R: Files + Input + Drop> Source for FileFolder<R> {
 impl<R: Files + Input + Drop> Folder for FileFolder<R> {
     ghost files = { λ _. None };
 
+    ghost asked = { λ f. f.asked };
+
     ghost use Rattle.std.proofs.Common.{refl};
 
     ghost files_kept = { λ _ _ _. refl };
 
+    ghost asked_kept = { λ _ _ same. same };
+
     fn choose(&mut self, name: &str) -> Result<(), ReadFault> {
+        self.asked.add(name);
         if name == "-" {
             self.chosen = Chosen::Input(self.system.reader());
             return Ok(());
@@ -87,8 +98,10 @@ impl<R: Files + Input + Drop> Folder for FileFolder<R> {
     }
 }
 
+/// One read, which is tried again where a signal interrupts it.
 fn read_retrying<T: Read>(reader: &mut T, buf: &mut [u8]) -> io::Result<usize>
-    ensures { ReadsAtMost result buf.new }
+    ensures bound { ReadsAtMost result buf.new }
+    ensures bytes { ReadConsumes (T.remaining reader.old) (T.remaining reader.new) result buf.new }
 {
     for _ in 0..TRIES {
         match reader.read(buf) {

@@ -1,4 +1,4 @@
-ghost use Rattle.std.specs.Prelude.{◌≡◌, ◌≢◌, ℕ, ◌+◌, ◌-◌, ◌≤◌, ◌<◌, min, length, List, IfOk, IfErr, IfSome, OnOk, OnErr, is_some, IsErrOf};
+ghost use Rattle.std.specs.Prelude.{◌≡◌, ◌≢◌, ℕ, ◌+◌, ◌-◌, ◌^◌, ◌≤◌, ◌<◌, length, take, drop, List, IfOk, IfErr, IfSome, OnOk, OnErr, is_some, IsErrOf};
 ghost use Rattle.std.specs.declared.option.Option.{Option};
 ghost use Rattle.std.specs.Io.{ReadsAtMost};
 ghost use Rattle.std.specs.Io.KnownBytes.{ReadConsumes, IsAtEnd};
@@ -86,8 +86,27 @@ impl From<AllocError> for ReadStop {
     }
 }
 
-/// How many bytes one read asks for.
-const PIECE: usize = 16384;
+/// Reads some of the next bytes over those in `bytes` from `at` on, and says how many: 0 only at the end
+/// of the input, or where there are none. What stands before `at` stays, and so does the length.
+pub fn read_behind<S: Source>(
+    source: &mut S,
+    bytes: &mut Vec<u8>,
+    at: usize,
+) -> Result<usize, ReadFault>
+    requires { at ≤ length bytes.old.items }
+    ensures within { IfOk result (λ count. at + count ≤ length bytes.new.items) }
+    ensures front { take at bytes.new.items ≡ take at bytes.old.items }
+    ensures same_length { length bytes.new.items ≡ length bytes.old.items }
+    ensures reads { ReadConsumes (S.left source.old) (S.left source.new) result (drop at bytes.new.items) }
+    ensures telling { is_some (S.left source.new) ≡ is_some (S.left source.old) }
+    ensures cause { HasCause (S.faults source.old) (S.faults source.new) result }
+    ensures keeps { S.read_keeps source.old source.new }
+{
+    source.read(&mut bytes[at..])
+}
+
+/// How much room there is for an input at first.
+const ROOM: u64 = 65536;
 
 /// All bytes that are left in `source`, at most `limit` of them.
 ///
@@ -109,23 +128,44 @@ pub fn read_to_end<S: Source>(
     ensures keeps { S.read_keeps source.old source.new }
 {
     let mut bytes = Vec::new(alloc);
-    let mut piece = [0u8; PIECE];
+    let mut done = 0;
     loop {
-        let room = limit - bytes.len() as u64;
-        let count = source.read(&mut piece[..asked(room)])?;
+        make_room(&mut bytes, done, limit)?;
+        let count = read_behind(source, &mut bytes, done)?;
         if count == 0 {
+            bytes.truncate(done);
             return Ok(bytes);
         }
-        if count as u64 > room {
+        done += count;
+        if done as u64 > limit {
             return Err(ReadStop::TooLong);
         }
-        bytes.extend_from_slice(&piece[..count])?;
     }
 }
 
-/// One byte more than there is room for, so that too long an input shows, but at most one piece.
-fn asked(room: u64) -> usize
-    ensures { result ≡ min (room + 1) 16384 }
+/// Makes room behind the bytes that were read, where they fill theirs.
+fn make_room(bytes: &mut Vec<u8>, done: usize, limit: u64) -> Result<(), AllocError>
+    requires within { done ≤ length bytes.old.items }
+    requires short { done ≤ limit }
+    requires most { length bytes.old.items ≤ limit + 1 }
+    ensures kept { OnOk result (take done bytes.new.items ≡ take done bytes.old.items) }
+    ensures more { OnOk result (done < length bytes.new.items) }
+    ensures most { OnOk result (length bytes.new.items ≤ limit + 1) }
 {
-    room.saturating_add(1).min(PIECE as u64) as usize
+    if done < bytes.len() {
+        return Ok(());
+    }
+    bytes.resize(wider(done, limit), 0)
+}
+
+/// How much room is wanted where this much is full: about twice as much, but at most one byte more than
+/// the limit, so that too long an input shows.
+fn wider(done: usize, limit: u64) -> usize
+    requires within { done ≤ limit }
+    requires short { done < 2 ^ 63 }
+    ensures more { done < result }
+    ensures most { result ≤ limit + 1 }
+{
+    let twice = ((done as u64) * 2).saturating_add(ROOM);
+    twice.min(limit.saturating_add(1)) as usize
 }

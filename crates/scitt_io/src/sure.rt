@@ -1,10 +1,11 @@
 // The forms that never fail: their count of faults is the constant 0.
-ghost use Rattle.std.specs.Prelude.{◌≡◌, ℕ, [], List, ◌<◌, length, Some, None, IfOk, IsOk, IfSome, OnOk, OnErr, is_some};
+ghost use Rattle.std.specs.Prelude.{◌≡◌, ℕ, [], ◌∷◌, ◌++◌, List, ◌<◌, length, Some, None, IfOk, IsOk, IfSome, OnOk, OnErr, is_some};
 ghost use Rattle.std.specs.Io.{ReadsAtMost, WritesAtMost};
 ghost use Rattle.std.specs.Io.KnownBytes.{ReadConsumes, WriteAppends};
 ghost use Rattle.scitt_io.specs.Causes.{HasCause};
 
 use crate::folder::Folder;
+use crate::names::Names;
 use crate::shelf::{chosen_bytes, give, place_of};
 use crate::sink::{Sink, WriteFault};
 use crate::source::{ReadFault, Source};
@@ -107,6 +108,7 @@ pub struct SureFolder {
     files: Vec<(String, Vec<u8>)>,
     chosen: Option<usize>,
     at: usize,
+    asked: Names,
 }
 
 impl Model for SureFolder {
@@ -116,7 +118,7 @@ impl Model for SureFolder {
 
     ghost Value = { SureFiles };
 
-    ghost view = { λ f. record { files = contents f.files.items; left = drop f.at (chosen_bytes f.files.items f.chosen) } };
+    ghost view = { λ f. record { files = contents f.files.items; left = drop f.at (chosen_bytes f.files.items f.chosen); asked = f.asked } };
 
     ghost invariant = { λ f. f.at ≤ length (chosen_bytes f.files.items f.chosen) };
 }
@@ -126,12 +128,13 @@ impl SureFolder {
 
     /// A folder of which no file is chosen yet.
     pub fn new(files: Vec<(String, Vec<u8>)>) -> Self
-        ensures { result ≡ record { files = contents files.items; left = [] } }
+        ensures { result ≡ record { files = contents files.items; left = []; asked = [] } }
     {
         SureFolder {
             files,
             chosen: None,
             at: 0,
+            asked: Names::new(),
         }
     }
 }
@@ -141,20 +144,20 @@ impl Source for SureFolder {
 
     ghost faults = { λ _. 0 };
 
-    ghost read_keeps = { λ a b. b.files ≡ a.files };
+    ghost read_keeps = { λ a b. (b.files ≡ a.files) × (b.asked ≡ a.asked) };
 
     ghost use Rattle.std.proofs.Common.{refl, ◌∙◌};
 
-    ghost read_keeps_self = { λ _. refl };
+    ghost read_keeps_self = { λ _. (refl, refl) };
 
-    ghost read_keeps_then = { λ _ _ _ p q. q ∙ p };
+    ghost read_keeps_then = { λ _ _ _ p q. (q.0 ∙ p.0, q.1 ∙ p.1) };
 
     fn read(&mut self, buf: &mut [u8]) -> Result<usize, ReadFault>
         ensures bound { ReadsAtMost result buf.new }
         ensures bytes { ReadConsumes (Some self.old.left) (Some self.new.left) result buf.new }
         ensures telling { is_some (Some self.new.left) ≡ is_some (Some self.old.left) }
         ensures cause { HasCause 0 0 result }
-        ensures keeps { self.new.files ≡ self.old.files }
+        ensures keeps { (self.new.files ≡ self.old.files) × (self.new.asked ≡ self.old.asked) }
         ensures sure { IsOk result }
     {
         let bytes = chosen_bytes(&self.files, self.chosen);
@@ -169,18 +172,24 @@ impl Folder for SureFolder {
 
     ghost files = { λ f. Some (file_or_empty f.files) };
 
+    ghost asked = { λ f. f.asked };
+
     ghost use Rattle.std.proofs.Common.{ap};
 
-    ghost files_kept = { λ _ _ p. ap (λ files. Some (file_or_empty files)) p };
+    ghost files_kept = { λ _ _ p. ap (λ files. Some (file_or_empty files)) p.0 };
+
+    ghost asked_kept = { λ _ _ p. p.1 };
 
     fn choose(&mut self, name: &str) -> Result<(), ReadFault>
         ensures chosen { OnOk result (IfSome (Some (file_or_empty self.old.files)) (λ file_of. ReadsFile (file_of name.now) (Some self.new.left))) }
         ensures unchosen { OnErr result (Some self.new.left ≡ Some self.old.left) }
         ensures telling { is_some (Some self.new.left) ≡ is_some (Some self.old.left) }
         ensures kept { Some (file_or_empty self.new.files) ≡ Some (file_or_empty self.old.files) }
+        ensures asked { self.new.asked ≡ self.old.asked ++ name.now ∷ [] }
         ensures cause { HasCause 0 0 result }
         ensures sure { IsOk result }
     {
+        self.asked.add(name);
         self.chosen = place_of(&self.files, name);
         self.at = 0;
         Ok(())

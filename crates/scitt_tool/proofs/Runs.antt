@@ -7,7 +7,7 @@ use Rattle.scitt_io.specs.Causes.{Rose}
 use Rattle.scitt_tool.specs.Answer.{Answer, Says}
 use Rattle.scitt_tool.specs.Command.{Command, command_of, file_name}
 use Rattle.scitt_tool.specs.Reads.{FileOf, Tells, ByFile, told_file, limit}
-use Rattle.scitt_tool.specs.ToolText.{CommandText, Judged}
+use Rattle.scitt_tool.specs.ToolText.{CommandText, ToolText, Judged}
 use Rattle.scitt_tool.specs.Run.{IsDue, Completes}
 
 -- the told file is the one that was judged
@@ -20,12 +20,20 @@ short_file : (Judged : List ℕ → Answer → Type 0) (bytes : List ℕ) (answe
 short_file Judged bytes answer short (inl judged) = judged.1
 short_file Judged bytes answer short (inr long) = absurd (omega (arith, long.0))
 
-due_judged : (words : List (List ℕ)) (file_of : FileOf) (before now : ℕ) (answer : Answer) (command : Command) (bytes : List ℕ) → command_of words ≡ Some command → file_of (file_name command) ≡ Some bytes
-    → length bytes ≤ limit → ¬ Rose before now → IsDue words file_of before now answer → Judged command bytes answer
-due_judged words file_of before now answer command bytes is found short calm (inr fault) = absurd (calm fault.2)
-due_judged words file_of before now answer command bytes is found short calm (inl text) =
+text_judged : (words : List (List ℕ)) (file_of : FileOf) (answer : Answer) (command : Command) (bytes : List ℕ) → command_of words ≡ Some command → file_of (file_name command) ≡ Some bytes
+    → length bytes ≤ limit → ToolText words file_of answer → Judged command bytes answer
+text_judged words file_of answer command bytes is found short text =
     let of_command : CommandText (Some command) file_of answer = subst (λ (c : Option Command). CommandText c file_of answer) is text in
     short_file (Judged command) bytes answer short (subst (λ (f : Option (List ℕ)). ByFile (Judged command) f answer) found of_command)
+
+due_judged : (words : List (List ℕ)) (file_of : FileOf) (before now : ℕ) (answer : Answer) (command : Command) (bytes : List ℕ) → command_of words ≡ Some command → file_of (file_name command) ≡ Some bytes
+    → length bytes ≤ limit → ¬ Rose before now → IsDue words file_of before now answer → Judged command bytes answer
+due_judged words file_of before now answer command bytes is found short calm due =
+    let P : Type 0 = Judged command bytes answer in
+    elim due.text as (λ _. P) [
+      | inl text ↦ text_judged words file_of answer command bytes is found short text
+      | inr fault ↦ absurd (calm (due.fault (ap (λ (a : Answer). a.status) fault.1)))
+    ]
 
 said_whole : (answer : Answer) (old new : Option (List ℕ)) (before now status : ℕ) → ¬ Rose before now → Says answer old new before now status → (status ≡ answer.status) × Appends old new answer.text
 said_whole answer old new before now status calm says =

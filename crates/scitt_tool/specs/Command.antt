@@ -20,3 +20,8 @@ command_of (name ∷ first ∷ second ∷ rest) = None
 abbrev pub file_name : Command → List ℕ
 file_name (Root file) = file
 file_name (Show file) = file
+
+-- the files that words read, in the order of the words: none where they are no command
+abbrev pub files_read : Option Command → List (List ℕ)
+files_read None = []
+files_read (Some command) = file_name command ∷ []

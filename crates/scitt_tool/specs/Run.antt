@@ -1,5 +1,5 @@
 -- A run of the tool: what it was to answer, and what it wrote.
-use Rattle.std.specs.Prelude.{◌≡◌, ◌⊎◌, ◌≤◌, ℕ, List, length, Some, IsSome}
+use Rattle.std.specs.Prelude.{◌≡◌, ◌≢◌, ◌⊎◌, ◌≤◌, ℕ, List, length, Some, IsSome}
 use Rattle.std.specs.declared.option.Option.{Option}
 use Rattle.std.specs.Io.KnownBytes.{Appends}
 use Rattle.scitt_io.specs.Causes.{Rose}
@@ -8,10 +8,13 @@ use Rattle.scitt_tool.specs.Command.{Command, command_of, file_name}
 use Rattle.scitt_tool.specs.Reads.{FileOf, Tells, told_file, limit}
 use Rattle.scitt_tool.specs.ToolText.{Judged, ToolText}
 
--- what there is to answer: what words and files call for, or, to a command, a read fault, where the folder's count rose
-abbrev pub IsDue : List (List ℕ) → FileOf → ℕ → ℕ → Answer → Type 0
-IsDue words file_of before now answer =
-    ToolText words file_of answer ⊎ (IsSome (command_of words) × (answer ≡ unread) × Rose before now)
+-- What there is to answer, and the folder's count before and after: what words and files call for, or, to a command, a read fault.
+-- The count rose where a read fault is answered, and else it stayed.
+pub record IsDue (words : List (List ℕ)) (file_of : FileOf) (before now : ℕ) (answer : Answer) : Type 0 where
+  pub text : ToolText words file_of answer ⊎ (IsSome (command_of words) × (answer ≡ unread))
+  pub later : before ≤ now
+  pub fault : answer.status ≡ 3 → Rose before now
+  pub calm : answer.status ≢ 3 → now ≡ before
 
 -- The words, the folder's files and its count before and after, what was written and the sink's count before and after, and
 -- the status: what there was to answer, over the told files, was said.

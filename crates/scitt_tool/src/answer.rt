@@ -1,4 +1,4 @@
-ghost use Rattle.std.specs.Prelude.{◌≡◌, ℕ, List, is_some};
+ghost use Rattle.std.specs.Prelude.{◌≡◌, ◌≤◌, ℕ, List, is_some};
 ghost use Rattle.scitt_tool.specs.Answer.{Says, words_refused, unread, too_long};
 
 use scitt_io::{Sink, write_all};
@@ -54,6 +54,7 @@ impl Answer {
     /// Writes the text. The answer's status stands where all of it was written, else 4.
     pub fn say<K: Sink>(&self, out: &mut K) -> Status
         ensures says { Says self.now (K.taken out.old) (K.taken out.new) (K.refused out.old) (K.refused out.new) result }
+        ensures later { K.refused out.old ≤ K.refused out.new }
         ensures telling { is_some (K.taken out.new) ≡ is_some (K.taken out.old) }
     {
         let text = match &self.text {

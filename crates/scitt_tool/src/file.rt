@@ -1,4 +1,4 @@
-ghost use Rattle.std.specs.Prelude.{◌≡◌, ◌≤◌, ℕ, List, IsErrOf, OnOk};
+ghost use Rattle.std.specs.Prelude.{◌≡◌, ◌≤◌, ℕ, List, [], ◌∷◌, ◌++◌, IsErrOf, OnOk, is_some};
 ghost use Rattle.std.specs.Io.KnownBytes.{IsAtEnd};
 ghost use Rattle.scitt_io.specs.Causes.{Rose};
 ghost use Rattle.scitt_tool.specs.Reads.{FileOf, Tells, ReadOf};
@@ -19,7 +19,10 @@ pub(crate) fn read_file<F: Folder>(
     ensures end { OnOk result (IsAtEnd (F.left files.new)) }
     ensures fault { IsErrOf result ReadStop.ReadFault → Rose (F.faults files.old) (F.faults files.new) }
     ensures no_fault { (IsErrOf result ReadStop.ReadFault → ⊥) → F.faults files.new ≡ F.faults files.old }
+    ensures later { F.faults files.old ≤ F.faults files.new }
     ensures kept { F.files files.new ≡ F.files files.old }
+    ensures telling { is_some (F.left files.new) ≡ is_some (F.left files.old) }
+    ensures asked { F.asked files.new ≡ F.asked files.old ++ name.now ∷ [] }
 {
     files.choose(name)?;
     read_to_end(alloc, files, LIMIT)

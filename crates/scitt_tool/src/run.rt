@@ -1,7 +1,7 @@
-ghost use Rattle.std.specs.Prelude.{◌≡◌, ◌≤◌, ◌⊎◌, ◌≢◌, ℕ, List, is_some, None, IfOk, IsOkAnd, OnErr};
+ghost use Rattle.std.specs.Prelude.{◌≡◌, ◌≤◌, ◌⊎◌, ◌≢◌, ◌++◌, ℕ, List, is_some, None, IfOk, IsOkAnd, OnErr};
 ghost use Rattle.std.specs.Io.KnownBytes.{IsAtEnd};
 ghost use Rattle.scitt_io.specs.Causes.{Rose};
-ghost use Rattle.scitt_tool.specs.Command.{command_of};
+ghost use Rattle.scitt_tool.specs.Command.{command_of, files_read};
 ghost use Rattle.scitt_tool.specs.Reads.{FileOf, Tells};
 ghost use Rattle.scitt_tool.specs.Meaning.{meaning};
 ghost use Rattle.scitt_tool.specs.ToolText.{Judged};
@@ -37,15 +37,21 @@ pub fn run_tool<F: Folder, K: Sink>(
 ) -> Status
     ensures answers { result ≢ 5 → Answers words.now (F.files files.old) (F.faults files.old) (F.faults files.new)
         (K.taken out.old) (K.taken out.new) (K.refused out.old) (K.refused out.new) result }
-    ensures no_memory { result ≡ 5 → (K.taken out.new ≡ K.taken out.old) × (K.refused out.new ≡ K.refused out.old) }
+    ensures no_memory { result ≡ 5 → K.taken out.new ≡ K.taken out.old }
     ensures words_refused { command_of words.now ≡ None → (result ≡ 2) ⊎ (result ≡ 4) }
     ensures only_words { result ≡ 2 → command_of words.now ≡ None }
+    ensures asked { F.asked files.new ≡ F.asked files.old ++ files_read (command_of words.now) }
     ensures read_fault { result ≡ 3 → Rose (F.faults files.old) (F.faults files.new) }
     ensures no_read_fault { result ≢ 3 → result ≢ 4 → F.faults files.new ≡ F.faults files.old }
+    ensures files_later { F.faults files.old ≤ F.faults files.new }
+    ensures write_fault { result ≡ 4 → Rose (K.refused out.old) (K.refused out.new) }
+    ensures no_write_fault { result ≢ 4 → K.refused out.new ≡ K.refused out.old }
+    ensures out_later { K.refused out.old ≤ K.refused out.new }
     ensures read_whole { result ≡ 0 → IsAtEnd (F.left files.new) }
     ensures complete { Completes words.now (F.files files.old) (F.faults files.old) (F.faults files.new)
         (K.taken out.old) (K.taken out.new) (K.refused out.old) (K.refused out.new) result }
     ensures telling { is_some (K.taken out.new) ≡ is_some (K.taken out.old) }
+    ensures files_telling { is_some (F.left files.new) ≡ is_some (F.left files.old) }
     ensures files_kept { F.files files.new ≡ F.files files.old }
 {
     match answer(alloc, words, files) {
@@ -63,6 +69,9 @@ fn answer<F: Folder>(alloc: Global, words: &Words, files: &mut F) -> Result<Answ
     ensures read_fault { IfOk result (λ answer. answer.status ≡ 3 → Rose (F.faults files.old) (F.faults files.new)) }
     ensures no_read_fault { IfOk result (λ answer. answer.status ≢ 3 → F.faults files.new ≡ F.faults files.old) }
     ensures no_memory { OnErr result (F.faults files.new ≡ F.faults files.old) }
+    ensures asked { F.asked files.new ≡ F.asked files.old ++ files_read (command_of words.now) }
+    ensures later { F.faults files.old ≤ F.faults files.new }
+    ensures telling { is_some (F.left files.new) ≡ is_some (F.left files.old) }
     ensures read_whole { IfOk result (λ answer. answer.status ≡ 0 → IsAtEnd (F.left files.new)) }
     ensures files_kept { F.files files.new ≡ F.files files.old }
     ensures no_other { IfOk result (λ answer. (answer.status ≢ 4) × (answer.status ≢ 5)) }
