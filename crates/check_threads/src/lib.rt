@@ -1,0 +1,8 @@
+//! Tests of what is shared among threads: `turn_lock`. They end by themselves, and what they compare is the same however
+//! the threads' turns fall.
+#![tactic(auto)]
+
+#[cfg(test)]
+mod notes;
+#[cfg(test)]
+mod turns;

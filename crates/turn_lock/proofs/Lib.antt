@@ -1,0 +1,5 @@
+pub mod Prefixes
+pub mod Weights
+pub mod Moves
+pub mod Steps
+pub mod Sitting

@@ -1,0 +1,5 @@
+pub mod Calls
+pub mod Seats
+pub mod Told
+pub mod Turns
+pub mod Views
