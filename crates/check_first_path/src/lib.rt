@@ -1,10 +1,12 @@
-//! Tests of the first path: `run_tool` on `root` and `show`, over files in memory, and the objects of `scitt_io`.
+//! Tests of the first path: `run_tool` on `root`, `show` and `policy`, over files in memory, and the objects of `scitt_io`.
 #![tactic(auto)]
 
 #[cfg(test)]
 mod objects;
 #[cfg(test)]
 mod outside;
+#[cfg(test)]
+mod policies;
 #[cfg(test)]
 mod rows;
 #[cfg(test)]

@@ -14,13 +14,19 @@ use Rattle.statement.specs.declared.statement_type.Statement.{Statement}
 use Rattle.statement.specs.declared.stops.ParseStop.{ParseStop}
 use Rattle.statement.specs.OneAnswer.{OneAnswer}
 use Rattle.scitt_tool.specs.Answer.{Answer, done, refused}
-use Rattle.scitt_tool.specs.Command.{Command, Root, Show, command_of, file_name}
+use Rattle.scitt_tool.specs.Command.{Command, Root, Show, Policy, command_of, file_name}
 use Rattle.scitt_tool.specs.Reads.{FileOf, ByFile}
 use Rattle.scitt_tool.specs.FaultText.{fault_text}
 use Rattle.cose_sign1.specs.Tbs.{byte_item}
 use Rattle.scitt_tool.specs.Root.{root_lines, strings_item, RootOf}
 use Rattle.scitt_tool.specs.StopText.{stop_text}
 use Rattle.scitt_tool.specs.Show.{show_lines, ShowOf}
+use Rattle.std.specs.Fmt.{decimal}
+use Rattle.policy_rules.specs.declared.documents.Policy.{Policy as Document}
+use Rattle.policy_rules.specs.declared.documents.PolicyStop.{PolicyStop}
+use Rattle.policy_rules.specs.declared.documents.PolicyStop.TheVariants.{Cbor, BadPolicy}
+use Rattle.policy_rules.specs.OneAnswer.{OneAnswer as OneDocument}
+use Rattle.scitt_tool.specs.Policy.{policy_lines, PolicyTextOf}
 use Rattle.scitt_tool.specs.ToolText.{Judged, CommandText, OneText}
 
 abbrev One : (Answer → Type 0) → Type 0
@@ -91,6 +97,43 @@ one_show tags one bytes a b (inr p) (inr q) =
     let same = err_is p.stop q.stop (one bytes (Err p.stop) (Err q.stop) p.first q.first) in
     p.is ∙ ap (λ (s : ParseStop). refused (codes "refused " ++ stop_text s)) same ∙ sym q.is
 
+-- ---- policy
+
+abbrev Decode : Type 0
+Decode = Result Document PolicyStop
+
+same_document : (p q : Document) → ◌≡◌ {A = Decode} (Ok p) (Ok q) → p ≡ q
+same_document p q e = cc
+
+same_place : (m n : ℕ) → ◌≡◌ {A = Decode} (Err (BadPolicy m)) (Err (BadPolicy n)) → m ≡ n
+same_place m n e = cc
+
+same_fault : (p q : Fault) → ◌≡◌ {A = Decode} (Err (Cbor p)) (Err (Cbor q)) → p ≡ q
+same_fault p q e = cc
+
+document_place : (p : Document) (n : ℕ) → ◌≡◌ {A = Decode} (Ok p) (Err (BadPolicy n)) → ⊥
+document_place p n e = cc
+
+document_fault : (p : Document) (f : Fault) → ◌≡◌ {A = Decode} (Ok p) (Err (Cbor f)) → ⊥
+document_fault p f e = cc
+
+place_fault : (n : ℕ) (f : Fault) → ◌≡◌ {A = Decode} (Err (BadPolicy n)) (Err (Cbor f)) → ⊥
+place_fault n f e = cc
+
+one_policy : OneDocument → (bytes : List ℕ) → One (PolicyTextOf bytes)
+one_policy one bytes a b (inl p) (inl q) =
+    p.is ∙ ap (λ (d : Document). done (policy_lines d)) (same_document p.policy q.policy (one bytes (Ok p.policy) (Ok q.policy) p.document q.document)) ∙ sym q.is
+one_policy one bytes a b (inl p) (inr (inl q)) = absurd (document_place p.policy q.place (one bytes (Ok p.policy) (Err (BadPolicy q.place)) p.document q.first))
+one_policy one bytes a b (inl p) (inr (inr q)) = absurd (document_fault p.policy q.fault (one bytes (Ok p.policy) (Err (Cbor q.fault)) p.document q.first))
+one_policy one bytes a b (inr (inl p)) (inl q) = absurd (document_place q.policy p.place (one bytes (Ok q.policy) (Err (BadPolicy p.place)) q.document p.first))
+one_policy one bytes a b (inr (inl p)) (inr (inl q)) =
+    p.is ∙ ap (λ n. refused (codes "refused policy " ++ decimal n)) (same_place p.place q.place (one bytes (Err (BadPolicy p.place)) (Err (BadPolicy q.place)) p.first q.first)) ∙ sym q.is
+one_policy one bytes a b (inr (inl p)) (inr (inr q)) = absurd (place_fault p.place q.fault (one bytes (Err (BadPolicy p.place)) (Err (Cbor q.fault)) p.first q.first))
+one_policy one bytes a b (inr (inr p)) (inl q) = absurd (document_fault q.policy p.fault (one bytes (Ok q.policy) (Err (Cbor p.fault)) q.document p.first))
+one_policy one bytes a b (inr (inr p)) (inr (inl q)) = absurd (place_fault q.place p.fault (one bytes (Err (BadPolicy q.place)) (Err (Cbor p.fault)) q.first p.first))
+one_policy one bytes a b (inr (inr p)) (inr (inr q)) =
+    p.is ∙ ap (λ (f : Fault). refused (codes "refused cbor " ++ fault_text f)) (same_fault p.fault q.fault (one bytes (Err (Cbor p.fault)) (Err (Cbor q.fault)) p.first q.first)) ∙ sym q.is
+
 -- ---- a command over files
 
 one_file : (P : List ℕ → Answer → Type 0) → ((bytes : List ℕ) → One (P bytes)) → (o : Option (List ℕ)) → One (ByFile P o)
@@ -100,10 +143,11 @@ one_file P each (Some bytes) a b (inl (small, p)) (inr (long, q)) = absurd (omeg
 one_file P each (Some bytes) a b (inr (long, p)) (inl (small, q)) = absurd (omega (arith, small, long))
 one_file P each (Some bytes) a b (inr (long, p)) (inr (large, q)) = p ∙ sym q
 
-module _ (never : NeverBoth) (one_item : OneItem) (one_fault : OneWholeFault) (tags : TagStandsFirst) (one : OneAnswer) where
+module _ (never : NeverBoth) (one_item : OneItem) (one_fault : OneWholeFault) (tags : TagStandsFirst) (one : OneAnswer) (document : OneDocument) where
   one_judged : (command : Command) (bytes : List ℕ) → One (Judged command bytes)
   one_judged (Root file) bytes = one_root never one_item one_fault bytes
   one_judged (Show file) bytes = one_show tags one bytes
+  one_judged (Policy file) bytes = one_policy document bytes
 
   one_command : (o : Option Command) (file_of : FileOf) → One (CommandText o file_of)
   one_command None file_of a b p q = p ∙ sym q

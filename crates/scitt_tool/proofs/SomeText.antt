@@ -16,13 +16,19 @@ use Rattle.statement.specs.declared.statement_type.Statement.{Statement}
 use Rattle.statement.specs.declared.stops.ParseStop.{ParseStop}
 use Rattle.statement.specs.OneAnswer.{AnswerOf, SomeAnswer}
 use Rattle.scitt_tool.specs.Answer.{Answer, done, refused, words_refused, unread, too_long}
-use Rattle.scitt_tool.specs.Command.{Command, Root, Show, command_of, file_name}
+use Rattle.scitt_tool.specs.Command.{Command, Root, Show, Policy, command_of, file_name}
 use Rattle.scitt_tool.specs.Reads.{FileOf, limit, ByFile}
 use Rattle.scitt_tool.specs.FaultText.{fault_text}
 use Rattle.cose_sign1.specs.Tbs.{byte_item}
 use Rattle.scitt_tool.specs.Root.{root_lines, strings_item, RootOf}
 use Rattle.scitt_tool.specs.StopText.{stop_text}
 use Rattle.scitt_tool.specs.Show.{show_lines, ShowOf}
+use Rattle.std.specs.Fmt.{decimal}
+use Rattle.policy_rules.specs.declared.documents.Policy.{Policy as Document}
+use Rattle.policy_rules.specs.declared.documents.PolicyStop.{PolicyStop}
+use Rattle.policy_rules.specs.declared.documents.PolicyStop.TheVariants.{Cbor, BadPolicy, OutOfMemory}
+use Rattle.policy_rules.specs.OneAnswer.{AnswerOf as DocumentAnswer, SomeAnswer as SomeDocument}
+use Rattle.scitt_tool.specs.Policy.{policy_lines, PolicyTextOf}
 use Rattle.scitt_tool.specs.ToolText.{Judged, CommandText, SomeText}
 
 abbrev Has : (Answer → Type 0) → Type 0
@@ -131,10 +137,17 @@ shown bytes (Ok s) p =
     (done (show_lines read.0.tagged s), inl (record { message = read.0; decoded = read.1; statement = s; parsed = p; is = refl }))
 shown bytes (Err stop) p = (refused (codes "refused " ++ stop_text stop), inr (record { stop = stop; first = p; is = refl }))
 
-module _ (either : ItemOrFault) (some : SomeAnswer) where
+document_text : (bytes : List ℕ) (answer : Result Document PolicyStop) → DocumentAnswer bytes answer → Has (PolicyTextOf bytes)
+document_text bytes (Ok policy) p = (done (policy_lines policy), inl (record { policy = policy; document = p; is = refl }))
+document_text bytes (Err (BadPolicy place)) p = (refused (codes "refused policy " ++ decimal place), inr (inl (record { place = place; first = p; is = refl })))
+document_text bytes (Err (Cbor fault)) p = (refused (codes "refused cbor " ++ fault_text fault), inr (inr (record { fault = fault; first = p; is = refl })))
+document_text bytes (Err OutOfMemory) p = absurd p
+
+module _ (either : ItemOrFault) (some : SomeAnswer) (document : SomeDocument) where
   some_judged : (command : Command) (bytes : List ℕ) → IsBytes bytes → Has (Judged command bytes)
   some_judged (Root file) bytes fits = some_root either bytes fits
   some_judged (Show file) bytes fits = let found = some bytes fits in shown bytes found.0 found.1
+  some_judged (Policy file) bytes fits = let found = document bytes fits in document_text bytes found.0 found.1
 
   some_file : (command : Command) (o : Option (List ℕ)) → ((bytes : List ℕ) → o ≡ Some bytes → IsBytes bytes) → Has (ByFile (Judged command) o)
   some_file command None fits = (unread, refl)

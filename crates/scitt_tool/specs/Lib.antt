@@ -7,6 +7,7 @@ pub mod FaultText
 pub mod Root
 pub mod StopText
 pub mod Show
+pub mod Policy
 pub mod ToolText
 pub mod Run
 pub mod Printed

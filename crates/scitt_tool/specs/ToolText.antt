@@ -2,15 +2,17 @@
 use Rattle.std.specs.Prelude.{◌≡◌, ℕ, List, Option, Some, None}
 use Rattle.cbor_core.specs.Bytes.{IsBytes}
 use Rattle.scitt_tool.specs.Answer.{Answer, words_refused}
-use Rattle.scitt_tool.specs.Command.{Command, Root, Show, command_of, file_name}
+use Rattle.scitt_tool.specs.Command.{Command, Root, Show, Policy, command_of, file_name}
 use Rattle.scitt_tool.specs.Reads.{FileOf, ByFile}
 use Rattle.scitt_tool.specs.Root.{RootOf}
 use Rattle.scitt_tool.specs.Show.{ShowOf}
+use Rattle.scitt_tool.specs.Policy.{PolicyTextOf}
 
 -- what a command answers of the bytes of its file
 abbrev pub Judged : Command → List ℕ → Answer → Type 0
 Judged (Root file) = RootOf
 Judged (Show file) = ShowOf
+Judged (Policy file) = PolicyTextOf
 
 -- what a command answers over these files
 abbrev pub CommandText : Option Command → FileOf → Answer → Type 0

@@ -12,6 +12,8 @@ pub(crate) enum Command<'a> {
     Root { file: &'a str },
     /// `show FILE`
     Show { file: &'a str },
+    /// `policy FILE`
+    Policy { file: &'a str },
 }
 
 impl Command<'_> {
@@ -20,7 +22,7 @@ impl Command<'_> {
         ensures { result.now ≡ file_name (meaning self.now) }
     {
         match self {
-            Command::Root { file } | Command::Show { file } => file,
+            Command::Root { file } | Command::Show { file } | Command::Policy { file } => file,
         }
     }
 }
@@ -36,6 +38,7 @@ pub(crate) fn command_of(words: &Words) -> Option<Command<'_>>
     match words.word(0) {
         "root" => Some(Command::Root { file }),
         "show" => Some(Command::Show { file }),
+        "policy" => Some(Command::Policy { file }),
         _ => None,
     }
 }

@@ -6,6 +6,8 @@ mod command;
 mod fault;
 mod file;
 mod laws;
+mod lines;
+mod policy;
 mod printed;
 mod root;
 mod run;

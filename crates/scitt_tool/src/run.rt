@@ -10,6 +10,7 @@ ghost use Rattle.scitt_tool.specs.Run.{Answers, IsDue, Completes};
 use crate::answer::{Answer, Status, too_long, unread, words_refused};
 use crate::command::{Command, command_of};
 use crate::file::read_file;
+use crate::policy::policy;
 use crate::root::root;
 use crate::show::show;
 use scitt_io::{Folder, ReadStop, Sink, Words};
@@ -95,5 +96,6 @@ fn judge(alloc: Global, command: &Command<'_>, bytes: &[u8]) -> Result<Answer, A
     match command {
         Command::Root { .. } => root(alloc, bytes),
         Command::Show { .. } => show(alloc, bytes),
+        Command::Policy { .. } => policy(alloc, bytes),
     }
 }

@@ -6,6 +6,7 @@ ghost use Rattle.cose_sign1.specs.Sign1Of.{begins_tagged};
 ghost use Rattle.scitt_tool.specs.Show.{ShowOf, tagged_text, alg_text, type_text, moment_text, header_lines, claim_lines, part_lines, show_lines};
 
 use crate::answer::Answer;
+use crate::lines::{count_text, push_line};
 use crate::stop::{label_text, printed_text, refused_statement};
 use cose_sign1::{Label, tag_stands_first};
 use statement::{ContentType, ParseStop, Statement, parse};
@@ -90,22 +91,6 @@ fn part_lines(alloc: Global, statement: &Statement) -> Result<String, AllocError
     push_line(&mut text, "receipts ", receipts.as_str())?;
     push_line(&mut text, "id ", id.as_str())?;
     Ok(text)
-}
-
-/// Adds a line: a name and what stands beside it.
-fn push_line(out: &mut String, name: &str, text: &str) -> Result<(), AllocError>
-    ensures { OnOk result (string_bytes out.new ≡ string_bytes out.old ++ line (name.now ++ text.now)) }
-{
-    out.push_str(name)?;
-    out.push_str(text)?;
-    out.push_str("\n")?;
-    Ok(())
-}
-
-fn count_text(alloc: Global, count: usize) -> Result<String, AllocError>
-    ensures { IfOk result (λ text. string_bytes text ≡ decimal count) }
-{
-    format!(in alloc; "{count}")
 }
 
 fn tagged_text(tagged: bool) -> &'static str
