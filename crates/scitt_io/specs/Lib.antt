@@ -4,5 +4,7 @@ pub mod Source
 pub mod Sink
 pub mod Files
 pub mod Names
+pub mod Readings
+pub mod Moments
 pub mod Memory
 pub mod Shelf

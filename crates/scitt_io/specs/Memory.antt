@@ -24,3 +24,22 @@ pub record SureFiles : Type 0 where
   pub files : List (List ℕ × List ℕ)
   pub left : List ℕ
   pub asked : List (List ℕ)
+
+-- a link: the bytes that are left to read, those that were written, its failing calls, and its two counts
+pub record Connection : Type 0 where
+  pub left : List ℕ
+  pub taken : List ℕ
+  pub plan : Plan
+  pub faults : ℕ
+  pub refused : ℕ
+
+-- a clock: the moments that are left, how often it was read, and its failing calls
+pub record Times : Type 0 where
+  pub left : List ℕ
+  pub readings : ℕ
+  pub plan : Plan
+
+-- a clock that never fails: its one moment, and how often it was read
+pub record Standstill : Type 0 where
+  pub moment : ℕ
+  pub readings : ℕ

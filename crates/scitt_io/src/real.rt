@@ -1,14 +1,14 @@
 // The trusted edge: real files and streams. They tell nothing, and count what the system refuses.
 ghost use Rattle.std.specs.Prelude.{◌≡◌, ℕ, List, None};
 ghost use Rattle.std.specs.declared.option.Option.{Option};
-ghost use Rattle.std.specs.Io.{ReadsAtMost};
-ghost use Rattle.std.specs.Io.KnownBytes.{ReadConsumes};
+ghost use Rattle.std.specs.Io.{ReadsAtMost, WritesAtMost};
+ghost use Rattle.std.specs.Io.KnownBytes.{ReadConsumes, WriteAppends};
 
 use crate::folder::Folder;
 use crate::names::Names;
 use crate::sink::{Sink, WriteFault};
 use crate::source::{ReadFault, Source};
-use std::io::{ErrorKind, Input, Print, Read};
+use std::io::{ErrorKind, Input, Print, Read, Write};
 use std::rt::Files;
 use std::{fs, io};
 
@@ -99,12 +99,26 @@ impl<R: Files + Input + Drop> Folder for FileFolder<R> {
 }
 
 /// One read, which is tried again where a signal interrupts it.
-fn read_retrying<T: Read>(reader: &mut T, buf: &mut [u8]) -> io::Result<usize>
+pub(crate) fn read_retrying<T: Read>(reader: &mut T, buf: &mut [u8]) -> io::Result<usize>
     ensures bound { ReadsAtMost result buf.new }
     ensures bytes { ReadConsumes (T.remaining reader.old) (T.remaining reader.new) result buf.new }
 {
     for _ in 0..TRIES {
         match reader.read(buf) {
+            Err(e) if e.kind() == ErrorKind::Interrupted => {}
+            answer => return answer,
+        }
+    }
+    Err(io::Error::from(ErrorKind::Interrupted))
+}
+
+/// One write, which is tried again where a signal interrupts it.
+pub(crate) fn write_retrying<T: Write>(writer: &mut T, bytes: &[u8]) -> io::Result<usize>
+    ensures bound { WritesAtMost result bytes.now }
+    ensures bytes { WriteAppends (T.contents writer.old) (T.contents writer.new) result bytes.now }
+{
+    for _ in 0..TRIES {
+        match writer.write(bytes) {
             Err(e) if e.kind() == ErrorKind::Interrupted => {}
             answer => return answer,
         }

@@ -143,8 +143,9 @@ pub fn read_to_end<S: Source>(
     }
 }
 
-/// Makes room behind the bytes that were read, where they fill theirs.
-fn make_room(bytes: &mut Vec<u8>, done: usize, limit: u64) -> Result<(), AllocError>
+/// Makes room behind the bytes that were read, of which there are `done`, where they fill theirs: about as
+/// much again, but at most up to one byte more than the limit, so that too long an input shows.
+pub fn make_room(bytes: &mut Vec<u8>, done: usize, limit: u64) -> Result<(), AllocError>
     requires within { done ≤ length bytes.old.items }
     requires short { done ≤ limit }
     requires most { length bytes.old.items ≤ limit + 1 }

@@ -1,0 +1,9 @@
+pub mod Numbers
+pub mod Heads
+pub mod Stopping
+pub mod Feeds
+pub mod Finding
+pub mod Writing
+pub mod Phrases
+pub mod Gathering
+pub mod Parts

@@ -1,0 +1,6 @@
+use Rattle.http_wire.proofs.Finding.{found_however_cut, one_request}
+use Rattle.http_wire.proofs.Feeds.{too_many_are_counted}
+use Rattle.http_wire.proofs.laws.request_laws.Goals as goal
+
+pub returns : goal.returns
+returns c = record { found = found_however_cut; one = one_request; counted = too_many_are_counted }

@@ -1,0 +1,42 @@
+-- Laws of requests.
+use Rattle.std.specs.Prelude.{◌≡◌, ℕ, List, [], ◌∷◌, ◌++◌, Some, ⊤, codes}
+use Rattle.http.specs.StatusCode.{IsStatusCode}
+use Rattle.http_wire.specs.Answering.{phrase_of}
+use Rattle.http_wire.specs.declared.request.Request.{Request}
+use Rattle.http_wire.specs.declared.request.Next.{Next}
+use Rattle.http_wire.specs.declared.request.Next.TheVariants as next
+use Rattle.http_wire.specs.Requests.{IsRequest}
+use Rattle.http_wire.specs.Taking.{Gives}
+
+-- the answer is that request, or a fault of the outside or want of memory
+abbrev pub Finds : Request → Next → Type 0
+Finds q (next.Request p) = p ≡ q
+Finds q next.ReadFault = ⊤
+Finds q next.OutOfMemory = ⊤
+Finds q _ = ⊥
+
+-- a request that is in the bytes is found, however few of them were taken when the call answered
+abbrev pub FoundHoweverCut : Type 0
+FoundHoweverCut =
+    (bytes more : List ℕ) (answer : Next) (held : List ℕ) (q : Request) (rest : List ℕ)
+    → Gives bytes (Some more) answer held → IsRequest (bytes ++ more) q rest → Finds q answer
+
+-- the bytes begin with at most one request
+abbrev pub OneRequest : Type 0
+OneRequest =
+    (bytes : List ℕ) (p q : Request) (r s : List ℕ) → IsRequest bytes p r → IsRequest bytes q s → (p ≡ q) × (r ≡ s)
+
+-- the phrases of the statuses that the service answers with (RFC 9110, 15, and RFC 6585, 5)
+abbrev pub phrases : List (ℕ × List ℕ)
+phrases =
+    (200, codes "OK") ∷ (201, codes "Created") ∷ (400, codes "Bad Request") ∷ (403, codes "Forbidden") ∷ (404, codes "Not Found")
+    ∷ (405, codes "Method Not Allowed") ∷ (411, codes "Length Required") ∷ (413, codes "Payload Too Large")
+    ∷ (415, codes "Unsupported Media Type") ∷ (431, codes "Request Header Fields Too Large") ∷ (503, codes "Service Unavailable") ∷ []
+
+-- each is the status's phrase, and the status has one
+abbrev pub HavePhrases : List (ℕ × List ℕ) → Type 0
+HavePhrases [] = Unit {0}
+HavePhrases (row ∷ rows) = (IsStatusCode row.0 × (phrase_of row.0 ≡ row.1)) × HavePhrases rows
+
+abbrev pub Phrases : Type 0
+Phrases = HavePhrases phrases

@@ -1,0 +1,9 @@
+pub mod Tokens
+pub mod Heads
+pub mod Requests
+pub mod Answering
+pub mod Fields
+pub mod Taking
+pub mod Parts
+pub mod Laws
+pub mod Feeds
