@@ -24,6 +24,9 @@ impl From<AllocError> for Stop {
     }
 }
 
+/// How many bytes one read of a head asks for at most.
+const PIECE: usize = 1024;
+
 /// Takes the first bytes away.
 pub fn drop_front(bytes: &mut Vec<u8>, count: usize)
     requires { count ≤ length bytes.old.items }
@@ -50,7 +53,7 @@ pub fn read_more<L: Source>(bytes: &mut Vec<u8>, link: &mut L, room: usize) -> R
     ensures keeps { L.read_keeps link.old link.new }
 {
     let start = bytes.len();
-    bytes.resize(start + room, 0)?;
+    bytes.resize(start + room.min(PIECE), 0)?;
     match read_behind(link, bytes, start) {
         Ok(count) => {
             bytes.truncate(start + count);
