@@ -1,3 +1,4 @@
 pub mod LevelLemmas
 pub mod SpellLemmas
 pub mod ReadLemmas
+pub mod ListLemmas

@@ -1,1 +1,4 @@
 pub mod Records
+pub mod Keys
+pub mod Stops
+pub mod Histories

@@ -2,6 +2,11 @@
 //! most once, whatever stops between.
 #![tactic(auto)]
 
+mod key_file;
+mod reading;
 mod records;
+mod stops;
 
+pub use key_file::KeyFile;
 pub use records::KeyHead;
+pub use stops::{KeyStop, TakeStop};

@@ -1,5 +1,5 @@
 // The records of a key file, read and written.
-ghost use Rattle.std.specs.Prelude.{◌≡◌, ◌∷◌, ◌++◌, ◌<◌, ◌≤◌, ℕ, [], length, map, option_and_then, IfOk, Some, None, true};
+ghost use Rattle.std.specs.Prelude.{◌≡◌, ◌∷◌, ◌++◌, ◌<◌, ◌≤◌, ℕ, [], length, map, option_and_then, IfOk, IfSome, Some, None, true};
 ghost use Rattle.lms_tree.specs.Types.{lms_type_of_code};
 ghost use Rattle.lms_ots.specs.Parameters.{type_of_code};
 ghost use Rattle.cbor_core.specs.Decoding.{strict_item};
@@ -140,7 +140,8 @@ fn id_of(item: &Item) -> Option<[u8; 16]>
 }
 
 fn block_of(item: &Item) -> Option<u32>
-    ensures { result ≡ words.block_in item.now }
+    ensures value { result ≡ words.block_in item.now }
+    ensures limits { IfSome result (λ block. (1 ≤ block) × (block ≤ 64)) }
 {
     let block = uint_of(item)?;
     if block >= 1 && block <= 64 {
@@ -151,12 +152,15 @@ fn block_of(item: &Item) -> Option<u32>
 }
 
 fn head_from(seed: &Item, id: &Item, levels: &Item, block: &Item) -> Option<KeyHead>
-    ensures { result ≡ words.head_from (words.sized_in 32 seed.now) (words.sized_in 16 id.now) (words.levels_in levels.now) (words.block_in block.now) }
+    ensures value { result ≡ words.head_from
+        (words.sized_in 32 seed.now) (words.sized_in 16 id.now) (words.levels_in levels.now) (words.block_in block.now) }
+    ensures limits { IfSome result IsHead }
 {
     let seed = seed_of(seed)?;
     let id = id_of(id)?;
     let levels = levels_of(levels)?;
     let block = block_of(block)?;
+    let _limits = levels.as_slice();
     Some(KeyHead {
         seed,
         id,
@@ -166,7 +170,8 @@ fn head_from(seed: &Item, id: &Item, levels: &Item, block: &Item) -> Option<KeyH
 }
 
 fn head_of_parts(parts: &[Item]) -> Option<KeyHead>
-    ensures { result ≡ words.head_of_parts parts.now }
+    ensures value { result ≡ words.head_of_parts parts.now }
+    ensures limits { IfSome result IsHead }
 {
     match parts {
         [kind, version, seed, id, levels, block] => {
@@ -181,7 +186,8 @@ fn head_of_parts(parts: &[Item]) -> Option<KeyHead>
 }
 
 fn head_of_item(item: &Item) -> Option<KeyHead>
-    ensures { result ≡ words.head_in item.now }
+    ensures value { result ≡ words.head_in item.now }
+    ensures limits { IfSome result IsHead }
 {
     head_of_parts(array_of(item)?)
 }
@@ -189,7 +195,8 @@ fn head_of_item(item: &Item) -> Option<KeyHead>
 /// What the body of a key file's first record says, if it is one.
 #[tactic(auto, unfolding(crate::specs::Records::head_of))]
 pub fn head_of(alloc: Global, body: &[u8]) -> Result<Option<KeyHead>, AllocError>
-    ensures { IfOk result (λ head. head ≡ words.head_of body.now) }
+    ensures value { IfOk result (λ head. head ≡ words.head_of body.now) }
+    ensures limits { IfOk result (λ head. IfSome head IsHead) }
 {
     match strict_of(alloc, body)? {
         Some(item) => Ok(head_of_item(&item)),
