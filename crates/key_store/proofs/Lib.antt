@@ -2,3 +2,4 @@ pub mod LevelLemmas
 pub mod SpellLemmas
 pub mod ReadLemmas
 pub mod ListLemmas
+pub mod KeyLemmas

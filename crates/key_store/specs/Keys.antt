@@ -116,6 +116,10 @@ LeftBy head S L =
 abbrev pub LeavesKey : KeyHead → KeyStanding → List ℕ → Type 0
 LeavesKey head S image = (L : List (List ℕ)) × LeftBy head S L × Recovers image L
 
+-- inside the making of a key file: no record is recovered, or the one that tells this key
+abbrev pub LeavesMade : KeyHead → List ℕ → Type 0
+LeavesMade head image = Recovers image [] ⊎ ((body : List ℕ) × (head_of body ≡ Some head) × Recovers image (body ∷ []))
+
 -- the image holds a reservation above this index
 abbrev pub HoldsAbove : ℕ → List ℕ → Type 0
 HoldsAbove index image = (L : List (List ℕ)) × Recovers image L × (index < reserved_of L)

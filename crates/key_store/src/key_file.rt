@@ -6,7 +6,7 @@ ghost use Rattle.scitt_journal.specs.Layout.{NoLog, RecordsOf, OneOf};
 ghost use Rattle.scitt_journal.specs.Keeping.{Between};
 ghost use Rattle.hss_keys.specs.Levels.{capacity};
 ghost use Rattle.key_store.specs.Records.{head_of};
-ghost use Rattle.key_store.specs.Keys.{KeyStanding, IsSound, IsReservation, Takes, CountsTake, LeavesKey, HoldsAbove, reserved_of};
+ghost use Rattle.key_store.specs.Keys.{KeyStanding, IsSound, IsReservation, Takes, CountsTake, LeavesMade, LeavesKey, HoldsAbove, reserved_of};
 ghost use Rattle.key_store.specs.Stops.{ExplainsMake, ExplainsKey};
 
 use crate::reading::{Found, read_key};
@@ -69,7 +69,13 @@ impl<D: Disk> KeyFile<D> {
         ensures records { IfOk result (λ file. length file.standing.records ≡ 1) }
         ensures none { IfOk result (λ file. IsTrue D.tells → NoLog (D.held disk).seen) }
         ensures sound { IfOk result (λ file. IsTrue D.tells → IsSound file.head file.standing) }
+        ensures images { IfOk result (λ file. IsTrue D.tells
+            → CrashLeaves (LeavesMade file.head) (after_sync (D.held disk)) (D.held file.disk)) }
 
+        ensures stopped { IfErr result (λ refused. IsTrue D.tells → NoLog (D.held disk).seen
+            → moment (D.held disk) < moment (D.held refused.disk)
+            → CrashLeaves (LeavesMade (record { seed = seed; id = id; levels = levels; block = block }))
+                (after_sync (D.held disk)) (D.held refused.disk)) }
         ensures stops { IfErr result (λ refused. ExplainsMake
             (IsTrue D.tells) (D.held disk).seen
             (D.fault_count disk) (D.fault_count refused.disk) refused.why) }
@@ -113,6 +119,65 @@ impl<D: Disk> KeyFile<D> {
                     why: made_stop(why),
                 })
             }
+        }
+    }
+
+    /// Begins with a sync, and finds and reads the records. The next index is what the last reservation says.
+    ///
+    /// `NoKey` where the file has fewer than six bytes or the first isn't 1; `Short` where an open gate has no whole record
+    /// behind it, with the place of the first such gate; else `BadKeyFile` with the number of the first record that doesn't
+    /// fit; `DiskFault` where the disk's count of faults rose; `OutOfMemory`. Nothing is written: a crash meanwhile leaves
+    /// nothing but what one before might have left.
+    pub fn load(alloc: Global, disk: D) -> Result<KeyFile<D>, Refused<D, KeyStop>>
+        ensures recovered { IfOk result (λ file. IsTrue D.tells
+            → (rest : ℕ) × RecordsOf (D.held disk).seen file.standing.records rest) }
+        ensures sound { IfOk result (λ file. IsTrue D.tells → IsSound file.head file.standing) }
+        ensures settled { IfOk result (λ file. file.standing.pending ≡ None) }
+        ensures next { IfOk result (λ file. file.standing.next ≡ file.reserved) }
+        ensures last { IfOk result (λ file. IsTrue D.tells → file.standing.next ≡ reserved_of file.standing.records) }
+        ensures synced { IfOk result (λ file. IsTrue D.tells → D.held file.disk ≡ after_sync (D.held disk)) }
+        ensures images { IfOk result (λ file. IsTrue D.tells
+            → CrashLeaves (ImageNow (D.held disk)) (D.held disk) (D.held file.disk)) }
+
+        ensures stops { IfErr result (λ refused. ExplainsKey
+            (IsTrue D.tells) (D.held disk).seen
+            (D.fault_count disk) (D.fault_count refused.disk) refused.why) }
+        ensures images_refused { IfErr result (λ refused. IsTrue D.tells
+            → CrashLeaves (ImageNow (D.held disk)) (D.held disk) (D.held refused.disk)) }
+        ensures nothing_written { IfErr result (λ refused. IsTrue D.tells
+            → (D.held refused.disk ≡ D.held disk) ⊎ (D.held refused.disk ≡ after_sync (D.held disk))) }
+
+        ensures counted { IfOk result (λ file. D.fault_count file.disk ≡ D.fault_count disk) }
+        ensures later { IfErr result (λ refused. D.fault_count disk ≤ D.fault_count refused.disk) }
+        ensures strays { IfOk result (λ file. IsTrue D.tells → D.strays file.disk ≡ D.strays disk) }
+        ensures strays_refused { IfErr result (λ refused. IsTrue D.tells → D.strays refused.disk ≡ D.strays disk) }
+        ensures same { IfOk result (λ file. D.same disk file.disk) }
+        ensures same_refused { IfErr result (λ refused. D.same disk refused.disk) }
+    {
+        let mut ledger = match Ledger::load(alloc, disk) {
+            Ok(ledger) => ledger,
+            Err(refused) => {
+                let Refused { disk, why } = refused;
+                return Err(Refused {
+                    disk,
+                    why: loaded_stop(why),
+                });
+            }
+        };
+        match read_key(alloc, &mut ledger) {
+            Ok(found) => {
+                let Found { head, reserved } = found;
+                Ok(KeyFile {
+                    ledger,
+                    head,
+                    next: reserved,
+                    reserved,
+                })
+            }
+            Err(why) => Err(Refused {
+                disk: ledger.close(),
+                why,
+            }),
         }
     }
 }
