@@ -12,17 +12,16 @@ use Rattle.hss_keys.specs.Levels.{CanSign, IsLevels}
 use Rattle.key_store.specs.Records.{can_sign, are_levels, kept_levels, level_in, levels_of}
 
 signs : (level : Level) → Decides (can_sign level) (CanSign level)
-signs level =
-    (
-      λ e. elim (or_cases (height level == 5) (height level == 10) e) [
-        | inl five ↦ inl (eqb-true (height level) 5 five)
-        | inr ten ↦ inr (eqb-true (height level) 10 ten)
-      ],
-      λ can. elim can [
-        | inl five ↦ or_left (height level == 5) (height level == 10) (eq-eqb (height level) 5 five)
-        | inr ten ↦ or_right (height level == 5) (height level == 10) (eq-eqb (height level) 10 ten)
-      ],
-    )
+signs level = (
+  λ e. elim (or_cases (height level == 5) (height level == 10) e) [
+    | inl five ↦ inl (eqb-true (height level) 5 five)
+    | inr ten ↦ inr (eqb-true (height level) 10 ten)
+  ],
+  λ can. elim can [
+    | inl five ↦ or_left (height level == 5) (height level == 10) (eq-eqb (height level) 5 five)
+    | inr ten ↦ or_right (height level == 5) (height level == 10) (eq-eqb (height level) 10 ten)
+  ],
+)
 
 all_sign : (levels : List Level) → Decides (list_all can_sign levels) (All CanSign levels)
 all_sign levels = Decides-by_and can_sign CanSign (list_all can_sign) signs refl (λ _ _. refl) levels

@@ -3,3 +3,4 @@ pub mod SpellLemmas
 pub mod ReadLemmas
 pub mod ListLemmas
 pub mod KeyLemmas
+pub mod HistoryLemmas

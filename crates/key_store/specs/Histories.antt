@@ -1,7 +1,8 @@
 -- Every list of calls, stops and loads of a key file.
-use Rattle.std.specs.Prelude.{◌≡◌, ℕ, ◌<◌, ◌≤◌, List, [], ◌∷◌, None, Result, Ok, Err, All}
+use Rattle.std.specs.Prelude.{◌≡◌, ℕ, ◌+◌, ◌≤◌, List, [], ◌∷◌, None, Result, Ok, Err}
 use Rattle.key_store.specs.declared.records.KeyHead.{KeyHead}
 use Rattle.key_store.specs.declared.stops.TakeStop.{TakeStop}
+use Rattle.key_store.specs.Records.{IsHead}
 use Rattle.key_store.specs.Keys.{KeyStanding, IsSound, Takes, LeftBy, reserved_of}
 
 -- a call that took an index or was refused, or a crash at any moment and a load after it; a load of a file that was closed
@@ -30,17 +31,22 @@ given (takes (Ok index) ∷ events) = index ∷ given events
 given (takes (Err stop) ∷ events) = given events
 given (stops ∷ events) = given events
 
+-- each number is this one or above it
+abbrev pub AllFrom : ℕ → List ℕ → Type 0
+AllFrom least [] = Unit {0}
+AllFrom least (index ∷ indices) = (least ≤ index) × AllFrom least indices
+
 -- each number is below all later ones, so that none stands twice
 abbrev pub Rise : List ℕ → Type 0
 Rise [] = Unit {0}
-Rise (index ∷ indices) = All (λ later. index < later) indices × Rise indices
+Rise (index ∷ indices) = AllFrom (index + 1) indices × Rise indices
 
 -- no index is given twice, and none that is below the next one at the start
 abbrev pub NoIndexTwice : Type 0
 NoIndexTwice =
-    (head : KeyHead) (S T : KeyStanding) (events : List KeyEvent) → IsSound head S → Runs head S events T → Rise (given events) × All (λ index. S.next ≤ index) (given events)
+    (head : KeyHead) (S T : KeyStanding) (events : List KeyEvent) → IsHead head → IsSound head S → Runs head S events T → Rise (given events) × AllFrom S.next (given events)
 
 -- and what a load finds after any of them is a key file of the same key
 abbrev pub StaysSound : Type 0
 StaysSound =
-    (head : KeyHead) (S T : KeyStanding) (events : List KeyEvent) → IsSound head S → Runs head S events T → IsSound head T
+    (head : KeyHead) (S T : KeyStanding) (events : List KeyEvent) → IsHead head → IsSound head S → Runs head S events T → IsSound head T

@@ -106,6 +106,12 @@ CountsTake before now (Err (Exhausted next most)) = now ≡ before
 CountsTake before now (Err DiskFault) = Rose before now
 CountsTake before now (Err OutOfMemory) = now ≡ before
 
+-- a call that was refused before it gave an index, for another reason than that none is left
+abbrev pub IsTakeFault : ℕ → ℕ → TakeStop → Type 0
+IsTakeFault before now (Exhausted next most) = ⊥
+IsTakeFault before now DiskFault = Rose before now
+IsTakeFault before now OutOfMemory = now ≡ before
+
 -- the lists that a crash at any moment may leave, between two calls or inside one: the records, those with the pending one,
 -- or those with the reservation that is made where none is left
 abbrev pub LeftBy : KeyHead → KeyStanding → List (List ℕ) → Type 0

@@ -3,10 +3,12 @@
 #![tactic(auto)]
 
 mod key_file;
+mod laws;
 mod reading;
 mod records;
 mod stops;
 
 pub use key_file::KeyFile;
+pub use laws::key_laws;
 pub use records::KeyHead;
 pub use stops::{KeyStop, TakeStop};
