@@ -1,12 +1,14 @@
 -- The steps of a comparison of items.
-use Rattle.std.proofs.Common.{◌≡◌, ℕ, ◌+◌, ◌-◌, ◌<◌, ◌≤◌, ◌⊎◌, List, ◌∷◌, length, get_or, drop, refl, sym, ap, subst, ◌∙◌, inl, inr, arith, Ordering}
+use Rattle.std.proofs.Common.{◌≡◌, ℕ, ◌+◌, ◌-◌, ◌<◌, ◌≤◌, ◌⊎◌, List, [], ◌∷◌, length, get_or, drop, refl, sym, ap, subst, ◌∙◌, inl, inr, arith, Ordering}
 use Rattle.std.specs.declared.cmp.Ordering.TheVariants.{Less, Equal, Greater}
 use Rattle.std.specs.Ordering.{ordering_then}
 use Rattle.std.proofs.lemmas.List.{drop_more, drop_all, length-drop}
 use Rattle.cbor_core.specs.declared.heads.Head.{Head}
 use Rattle.cbor_core.specs.declared.tree.Item.{Item}
-use Rattle.cbor_core.specs.declared.tree.Node.{out-Node}
-use Rattle.cbor_core.specs.Encoding.{head_layer, head_text, bytes_of, items_of, pairs_of, flat, IsWhole, Compares, ComparesFronts, ComparesItems, ComparesEach}
+use Rattle.cbor_core.specs.declared.tree.Node.{Node-F, out-Node}
+use Rattle.cbor_core.specs.Tree.{Layer}
+use Rattle.cbor_core.specs.Encoding.{short, spell_in, head_layer, head_text, bytes_of, items_of, pairs_of, flat, IsWhole, Compares, ComparesFronts, ComparesItems, ComparesEach}
+use Rattle.cbor_core.proofs.SpellParts.{some_is}
 use Rattle.cbor_core.proofs.CompareLemmas.{item-compares, each-then, each-end, each-decides}
 
 then_first : (o p : Ordering) → (o ≡ Equal → ⊥) → ordering_then o p ≡ o
@@ -95,3 +97,50 @@ flat_none a i le = ap (λ (p : List Pair). length (flat p)) (drop_all i a le)
 
 pub pairs-end : (room : ℕ) (a b : List Pair) (i : ℕ) → (length a ≤ i) ⊎ (length b ≤ i) → ComparesEach room Equal (flat (drop i a)) (flat (drop i b))
 pairs-end room a b i h = each-end room (flat (drop i a)) (flat (drop i b)) (elim h [ inl le ↦ inl (flat_none a i le) | inr le ↦ inr (flat_none b i le) ])
+
+-- ---- two items whose heads are equal
+
+then_last : (o : Ordering) → ordering_then o Equal ≡ o
+then_last Less = refl
+then_last Equal = refl
+then_last Greater = refl
+
+-- equal items compare so
+pub same-compares : (a b : Item) → a ≡ b → (room : ℕ) → ComparesItems room Equal a b
+same-compares a b e room g s t es et = some_is s t (sym es ∙ ap (λ (x : Item). spell_in g room x) e ∙ et)
+
+each-one : (room : ℕ) (o : Ordering) (x y : Item) → ComparesItems room o x y → ComparesEach room o (x ∷ []) (y ∷ [])
+each-one room Less x y h = each-decides room Less x y [] [] (λ e. absurd cc) h
+each-one room Equal x y h = each-then room Equal Equal x y [] [] h (λ _. each-end room [] [] (inl (omega arith)))
+each-one room Greater x y h = each-decides room Greater x y [] [] (λ e. absurd cc) h
+
+heads-equal : (a b : Item) (la lb : Layer) → out-Node a.node ≡ la → out-Node b.node ≡ lb → head_layer la ≡ head_layer lb → HeadsCompare Equal a b
+heads-equal a b la lb ea eb e _ _ = ap (λ (l : Layer). head_text (head_layer l)) ea ∙ ap head_text e ∙ ap (λ (l : Layer). head_text (head_layer l)) (sym eb)
+
+module _ (room : ℕ) (a b : Item) (opens : 0 < room) where
+  none : {A : Type 0} (f : Layer → List A) (l : Layer) (item : Item) → out-Node item.node ≡ l → f l ≡ [] → f (out-Node item.node) ≡ []
+  none f l item is e = ap f is ∙ e
+
+  -- nothing but items, or nothing but pairs, follows the heads
+  inside : (la lb : Layer) → out-Node a.node ≡ la → out-Node b.node ≡ lb → head_layer la ≡ head_layer lb → bytes_of la ≡ bytes_of lb → (items pairs : Ordering) → ComparesEach (room - 1) items (items_of la) (items_of lb) → ComparesEach (room - 1) pairs (flat (pairs_of la)) (flat (pairs_of lb))
+      → ComparesItems room (ordering_then items pairs) a b
+  inside la lb ea eb heads bytes items pairs by_items by_pairs =
+      item-compares room a b Equal Equal items pairs (heads-equal a b la lb ea eb heads)
+      (λ _. ap bytes_of ea ∙ bytes ∙ ap bytes_of (sym eb))
+      (λ _ _ _. subst (λ (l : Layer × Layer). ComparesEach (room - 1) items (items_of l.0) (items_of l.1)) (λ i. (sym ea i, sym eb i)) by_items)
+      (λ _ _ _ _. subst (λ (l : Layer × Layer). ComparesEach (room - 1) pairs (flat (pairs_of l.0)) (flat (pairs_of l.1))) (λ i. (sym ea i, sym eb i)) by_pairs)
+      (λ z. absurd (omega arith))
+
+  nothing : ComparesEach (room - 1) Equal [] []
+  nothing = each-end (room - 1) [] [] (inl (omega arith))
+
+  pub array-inside : (s t : List Item) (o : Ordering) → out-Node a.node ≡ Node-F.Array s → out-Node b.node ≡ Node-F.Array t → length s ≡ length t → ComparesEach (room - 1) o s t → ComparesItems room o a b
+  array-inside s t o ea eb len h =
+      subst (λ (p : Ordering). ComparesItems room p a b) (then_last o) (inside (Node-F.Array s) (Node-F.Array t) ea eb (ap (λ (n : ℕ). short 4 n) len) refl o Equal h nothing)
+
+  pub map-inside : (s t : List Pair) (o : Ordering) → out-Node a.node ≡ Node-F.Map s → out-Node b.node ≡ Node-F.Map t → length s ≡ length t → ComparesEach (room - 1) o (flat s) (flat t) → ComparesItems room o a b
+  map-inside s t o ea eb len h = inside (Node-F.Map s) (Node-F.Map t) ea eb (ap (λ (n : ℕ). short 5 n) len) refl Equal o nothing h
+
+  pub tag-inside : (m n : ℕ) (x y : Item) (o : Ordering) → out-Node a.node ≡ Node-F.Tag m x → out-Node b.node ≡ Node-F.Tag n y → m ≡ n → ComparesItems (room - 1) o x y → ComparesItems room o a b
+  tag-inside m n x y o ea eb e h =
+      subst (λ (p : Ordering). ComparesItems room p a b) (then_last o) (inside (Node-F.Tag m x) (Node-F.Tag n y) ea eb (ap (λ (k : ℕ). short 6 k) e) refl o Equal (each-one (room - 1) o x y h) nothing)

@@ -31,6 +31,7 @@ pub use laws::{
     whole_bytes_have_one_answer, wide_item_is_exact,
 };
 pub use order::below;
+pub use places::{has_ordered_key, key_order};
 pub use same::{has_key, same_item};
 pub use strings::{Bytes, Text};
 pub use tree::{Item, Node, Pairs};

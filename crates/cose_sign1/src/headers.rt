@@ -1,13 +1,12 @@
 ghost use Rattle.std.specs.Prelude.{◌≡◌};
-ghost use Rattle.cose_sign1.specs.Marks.{marks_of as digests_of_labels};
+ghost use Rattle.cbor_core.specs.Order.{Ordered};
 ghost use Rattle.cose_sign1.specs.Headers.{Says, bad_header as header_stop, dup_label as label_stop, protected_fault, unprotected_fault, first_fault, header_fault};
 
 use crate::crit::check_crit;
 use crate::kinds::is_right_kind;
 use crate::labels::{is_number, label_of};
-use crate::marks::{has_marked_key, mark_of, marks_of};
 use crate::stops::Sign1Stop;
-use cbor_core::Item;
+use cbor_core::{Item, has_ordered_key, key_order};
 use std::alloc::Global;
 
 fn bad_header(alloc: Global, key: &Item) -> Result<(), Sign1Stop>
@@ -42,14 +41,13 @@ fn check_protected_entry(alloc: Global, entry: &(Item, Item)) -> Result<(), Sign
 fn check_unprotected_entry(
     alloc: Global,
     protected: &[(Item, Item)],
-    marks: &[[u8; 32]],
+    order: &[u16],
     entry: &(Item, Item),
 ) -> Result<(), Sign1Stop>
-    requires { marks.now ≡ digests_of_labels protected.now }
+    requires { Ordered 0 protected.now order.now }
     ensures { Says result (unprotected_fault protected.now entry.now) }
 {
-    let mark = mark_of(&entry.0);
-    if has_marked_key(protected, marks, &entry.0, &mark) {
+    if has_ordered_key(protected, order, &entry.0) {
         dup_label(alloc, &entry.0)?;
     }
     if !is_right_kind(entry) {
@@ -70,14 +68,14 @@ fn check_protected(alloc: Global, entries: &[(Item, Item)]) -> Result<(), Sign1S
 fn check_unprotected(
     alloc: Global,
     protected: &[(Item, Item)],
-    marks: &[[u8; 32]],
+    order: &[u16],
     entries: &[(Item, Item)],
 ) -> Result<(), Sign1Stop>
-    requires { marks.now ≡ digests_of_labels protected.now }
+    requires { Ordered 0 protected.now order.now }
     ensures { Says result (first_fault (unprotected_fault protected.now) entries.now) }
 {
     for entry in entries {
-        check_unprotected_entry(alloc, protected, marks, entry)?;
+        check_unprotected_entry(alloc, protected, order, entry)?;
     }
     Ok(())
 }
@@ -89,8 +87,11 @@ fn check_both(
 ) -> Result<(), Sign1Stop>
     ensures { Says result (first_fault (unprotected_fault protected.now) entries.now) }
 {
-    match marks_of(alloc, protected) {
-        Ok(marks) => check_unprotected(alloc, protected, marks.as_slice(), entries),
+    if entries.is_empty() {
+        return Ok(());
+    }
+    match key_order(alloc, protected) {
+        Ok(order) => check_unprotected(alloc, protected, order.as_slice(), entries),
         Err(_) => Err(Sign1Stop::OutOfMemory),
     }
 }
