@@ -1,0 +1,4 @@
+pub mod Again
+pub mod Answering
+pub mod Shaped
+pub mod Whole

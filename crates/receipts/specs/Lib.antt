@@ -1,0 +1,5 @@
+pub mod Steps
+pub mod Form
+pub mod Written
+pub mod Fits
+pub mod Laws
