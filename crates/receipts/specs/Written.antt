@@ -36,10 +36,14 @@ abbrev pub proof_inner : Proof → Item
 proof_inner (Inclusion size index path at rule) = led_item size index path
 proof_inner (Consistency old size path) = led_item old size path
 
+-- [registered_at, rule]
+abbrev pub registration_item : ℕ → ℕ → Item
+registration_item at rule = array_item (uint_item at ∷ uint_item rule ∷ [])
+
 -- the entries of the unprotected map
 abbrev pub proof_entries : Proof → List (Item × Item)
 proof_entries (Inclusion size index path at rule) =
-    (uint_item 396, proofs_item 0 (led_item size index path)) ∷ (nint_item 70001, array_item (uint_item at ∷ uint_item rule ∷ [])) ∷ []
+    (uint_item 396, proofs_item 0 (led_item size index path)) ∷ (nint_item 70001, registration_item at rule) ∷ []
 proof_entries (Consistency old size path) = (uint_item 396, proofs_item 1 (led_item old size path)) ∷ []
 
 abbrev pub unprotected_item : Proof → Item

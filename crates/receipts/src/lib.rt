@@ -2,10 +2,14 @@
 #![tactic(auto)]
 
 mod decoding;
+mod encoding;
+mod items;
 mod laws;
 mod reading;
 mod receipt;
+mod within;
 
 pub use decoding::decode;
+pub use encoding::encode;
 pub use laws::receipts_are_read_again;
 pub use receipt::{Proof, Receipt, ReceiptStop};
