@@ -3,3 +3,4 @@ pub mod Form
 pub mod Written
 pub mod Fits
 pub mod Laws
+pub mod Signed
