@@ -15,11 +15,11 @@ use Rattle.cose_sign1.specs.Headers.{or_then, first_fault, protected_fault, unpr
 use Rattle.cose_sign1.specs.Sign1Of.{HasEntries, message_of, Sign1Of}
 use Rattle.cose_sign1.specs.Message.{array_item, message_parts, bare_item, bare_of, BareIsMessage}
 
-or_none : (a b : Option Sign1Stop) → or_then a b ≡ None → (a ≡ None) × (b ≡ None)
+pub or_none : (a b : Option Sign1Stop) → or_then a b ≡ None → (a ≡ None) × (b ≡ None)
 or_none None b e = (refl, e)
 or_none (Some stop) b e = absurd cc
 
-if_none : (b : Bool) → (if b then Some BadCrit else None) ≡ None → b ≡ false
+pub if_none : (b : Bool) → (if b then Some BadCrit else None) ≡ None → b ≡ false
 if_none true e = absurd cc
 if_none false e = refl
 

@@ -12,6 +12,7 @@ use Rattle.cose_sign1.specs.declared.sign1.Sign1.{Sign1}
 use Rattle.cose_sign1.specs.Tbs.{byte_item}
 use Rattle.cose_sign1.specs.Parts.{array_in, tagged_in, parts_in}
 use Rattle.cose_sign1.specs.Message.{payload_item, array_item, message_parts, tagged_item}
+use Rattle.cose_sign1.specs.Sign1Of.{Sign1Of}
 use Rattle.cose_sign1.specs.Short.{StringsAreShort}
 use Rattle.cose_sign1.proofs.WholeLemmas.{array_is, parts_are_item}
 
@@ -20,7 +21,7 @@ abbrev AreShort : List ℕ → Option (List ℕ) → List ℕ → Type 0
 AreShort protected payload signature =
     (length protected ≤ longest_string) × ((content : List ℕ) → payload ≡ Some content → length content ≤ longest_string) × (length signature ≤ longest_string)
 
-string_short : (room : ℕ) (s text : List ℕ) → SpellsIn Wide room (byte_item s) text → length s ≤ longest_string
+pub string_short : (room : ℕ) (s text : List ℕ) → SpellsIn Wide room (byte_item s) text → length s ≤ longest_string
 unfolding SpellsIn
 string_short zero s text p = (subst (λ (l : Layer). SpellsLayer Wide 0 (λ _ _. ⊥) l text) (outs-Bytes s) p).0
 string_short (suc room) s text p = (subst (λ (l : Layer). SpellsLayer Wide (suc room) (SpellsIn Wide room) l text) (outs-Bytes s) p).0
@@ -76,3 +77,31 @@ parts_short item text parts false s e t = bare_short item text parts s e t
 pub strings_short : StringsAreShort
 strings_short bytes v (parts, entries, (item, s, e), has, fine, is) =
     subst (λ (w : Sign1). AreShort w.protected w.payload w.signature) (sym is) (parts_short item bytes parts parts.tagged s e refl)
+
+-- ---- the unprotected map
+
+-- it is spelled where at least three containers may be opened
+abbrev MapSpelled : Item → Type 0
+MapSpelled u = (room : ℕ) × (text : List ℕ) × SpellsIn Wide (suc (suc room)) u text
+
+array_map : (room : ℕ) (protected : List ℕ) (u : Item) (payload : Option (List ℕ)) (signature text : List ℕ) → SpellsIn Wide (suc (suc (suc room))) (array_item (message_parts protected u payload signature)) text → MapSpelled u
+unfolding SpellsIn SpellEach
+array_map room protected u payload signature text p =
+    let items = message_parts protected u payload signature in
+    let l = subst (λ (l : Layer). SpellsLayer Wide (suc (suc (suc room))) (SpellsIn Wide (suc (suc room))) l text) (outs-Array items) p in
+    let b = l.2.3.3 in
+    (room, b.0, b.2)
+
+map_by : (item : Item) (text : List ℕ) (parts : Parts) (tagged : Bool) → Spells Wide item text → parts_in item ≡ Some parts → parts.tagged ≡ tagged → MapSpelled (record { node = Map parts.unprotected })
+unfolding Spells parts_in
+map_by item text parts false s e t =
+    array_map 13 parts.protected (record { node = Map parts.unprotected }) parts.payload parts.signature text (subst (λ (x : Item). SpellsIn Wide 16 x text) (untagged_is item (out-Node item.node) parts refl e t) s)
+map_by item text parts true s e t =
+    let u : Item = record { node = Map parts.unprotected } in
+    let items = message_parts parts.protected u parts.payload parts.signature in
+    let inner = tag_short 15 items text (subst (λ (x : Item). SpellsIn Wide 16 x text) (parts_are_item item parts e t) s) in
+    array_map 12 parts.protected u parts.payload parts.signature inner.0 inner.1
+
+pub unprotected_spelled : (bytes : List ℕ) (v : Sign1) → Sign1Of bytes v → (room : ℕ) × (text : List ℕ) × SpellsIn Wide (suc (suc room)) (record { node = Map v.headers.unprotected }) text
+unprotected_spelled bytes v (parts, entries, (item, s, e), has, fine, is) =
+    subst (λ (w : Sign1). MapSpelled (record { node = Map w.headers.unprotected })) (sym is) (map_by item bytes parts parts.tagged s e refl)

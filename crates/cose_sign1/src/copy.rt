@@ -23,8 +23,9 @@ pub fn copy_item(alloc: Global, item: &Item) -> Result<Item, AllocError>
     Ok(Item { node })
 }
 
+/// A copy of items.
 #[cycle(copy)]
-fn copy_items(alloc: Global, items: &[Item]) -> Result<Items<Item>, AllocError>
+pub fn copy_items(alloc: Global, items: &[Item]) -> Result<Items<Item>, AllocError>
     ensures { IfOk result (λ copy. copy ≡ items.now) }
 {
     let mut copies = Items::new(alloc);

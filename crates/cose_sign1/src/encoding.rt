@@ -12,7 +12,8 @@ use cbor_core::{Bytes, EncodeStop, Item, Node};
 use sqlite_items::{Boxed, Items};
 use std::alloc::{AllocError, Global};
 
-fn string_item(alloc: Global, bytes: &[u8]) -> Result<Item, AllocError>
+/// A byte string.
+pub fn string_item(alloc: Global, bytes: &[u8]) -> Result<Item, AllocError>
     ensures { IfOk result (λ item. item ≡ byte_item bytes.now) }
 {
     Ok(Item {
