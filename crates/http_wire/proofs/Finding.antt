@@ -11,10 +11,10 @@ use Rattle.http_wire.specs.Heads.{IsHead, body_length, pairs_of}
 use Rattle.http_wire.specs.Requests.{IsRequest, request_of, FaultByFields, IsHeadFault, EndsInside}
 use Rattle.http_wire.specs.Laws.{FoundHoweverCut, OneRequest}
 
-head_more : {bytes rest : List ℕ} {h : RequestHead} (more : List ℕ) → IsHead bytes h rest → IsHead (bytes ++ more) h (rest ++ more)
+pub head_more : {bytes rest : List ℕ} {h : RequestHead} (more : List ℕ) → IsHead bytes h rest → IsHead (bytes ++ more) h (rest ++ more)
 head_more {bytes} {rest} {h} more x = record { reads = ReadsRequest-append bytes h rest more x.reads; fields = x.fields; size = x.size }
 
-request_more : {bytes rest : List ℕ} {q : Request} (more : List ℕ) → IsRequest bytes q rest → IsRequest (bytes ++ more) q (rest ++ more)
+pub request_more : {bytes rest : List ℕ} {q : Request} (more : List ℕ) → IsRequest bytes q rest → IsRequest (bytes ++ more) q (rest ++ more)
 request_more {bytes} {rest} more r = record {
   head = r.head;
   body = r.body;
@@ -23,11 +23,11 @@ request_more {bytes} {rest} more r = record {
   is = r.is;
 }
 
-same_length : (m n : ℕ) (r : Result ℕ HeadFault) → r ≡ Ok m → r ≡ Ok n → m ≡ n
+pub same_length : (m n : ℕ) (r : Result ℕ HeadFault) → r ≡ Ok m → r ≡ Ok n → m ≡ n
 same_length m n r e f = cc (e, f)
 
 -- two heads at the front are one
-heads_agree : (bytes : List ℕ) (h k : RequestHead) (r s : List ℕ) → IsHead bytes h r → IsHead bytes k s → (h ≡ k) × (r ≡ s)
+pub heads_agree : (bytes : List ℕ) (h k : RequestHead) (r s : List ℕ) → IsHead bytes h r → IsHead bytes k s → (h ≡ k) × (r ≡ s)
 heads_agree bytes h k r s x y = request_unique bytes h k r s x.reads y.reads
 
 bodies_agree : (a b r s : List ℕ) → length a ≡ length b → a ++ r ≡ b ++ s → (a ≡ b) × (r ≡ s)
@@ -45,7 +45,7 @@ one_request bytes p q r s x y =
     (x.is ∙ ap (λ (h : RequestHead). request_of h x.body) heads.0 ∙ ap (request_of y.head) bodies.0 ∙ sym y.is, bodies.1)
 
 -- no request in no bytes
-no_head_in_none : (h : RequestHead) (rest : List ℕ) → IsHead [] h rest → ⊥
+pub no_head_in_none : (h : RequestHead) (rest : List ℕ) → IsHead [] h rest → ⊥
 unfolding print_request
 no_head_in_none h rest x =
     let e = ap length x.reads.1 in
@@ -60,7 +60,7 @@ take_over (x ∷ xs) ys n h =
     let f : n - length (x ∷ xs) ≡ (n - 1) - length xs = omega arith in
     ap (λ (k : ℕ). take k (x ∷ (xs ++ ys))) e ∙ ap (λ (zs : List ℕ). x ∷ zs) (take_over xs ys (n - 1) (omega arith)) ∙ ap (λ (k : ℕ). x ∷ (xs ++ take k ys)) (sym f)
 
-within_limit : (bytes more : List ℕ) (h : RequestHead) (rest : List ℕ) → 8192 ≤ length bytes → IsHead (bytes ++ more) h rest
+pub within_limit : (bytes more : List ℕ) (h : RequestHead) (rest : List ℕ) → 8192 ≤ length bytes → IsHead (bytes ++ more) h rest
     → ReadsRequest (take 8192 bytes) h (take (8192 - length (print_request h)) rest)
 within_limit bytes more h rest long x =
     let cut : take 8192 bytes ≡ take 8192 (print_request h ++ rest) = sym (take-append-le 8192 bytes more long) ∙ ap (take 8192) x.reads.1 in

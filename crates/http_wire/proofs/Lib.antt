@@ -7,3 +7,4 @@ pub mod Writing
 pub mod Phrases
 pub mod Gathering
 pub mod Parts
+pub mod Deciding

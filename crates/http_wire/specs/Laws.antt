@@ -1,11 +1,12 @@
 -- Laws of requests.
-use Rattle.std.specs.Prelude.{◌≡◌, ℕ, List, [], ◌∷◌, ◌++◌, Some, ⊤, codes}
+use Rattle.std.specs.Prelude.{◌≡◌, ℕ, List, [], ◌∷◌, ◌++◌, Some, Bool, ⊤, codes}
 use Rattle.http.specs.StatusCode.{IsStatusCode}
 use Rattle.http_wire.specs.Answering.{phrase_of}
 use Rattle.http_wire.specs.declared.request.Request.{Request}
 use Rattle.http_wire.specs.declared.request.Next.{Next}
 use Rattle.http_wire.specs.declared.request.Next.TheVariants as next
-use Rattle.http_wire.specs.Requests.{IsRequest}
+use Rattle.http_wire.specs.declared.request.HeadFault.{HeadFault}
+use Rattle.http_wire.specs.Requests.{IsRequest, FaultByFields, LacksBody}
 use Rattle.http_wire.specs.Taking.{Gives}
 
 -- the answer is that request, or a fault of the outside or want of memory
@@ -20,6 +21,44 @@ abbrev pub FoundHoweverCut : Type 0
 FoundHoweverCut =
     (bytes more : List ℕ) (answer : Next) (held : List ℕ) (q : Request) (rest : List ℕ)
     → Gives bytes (Some more) answer held → IsRequest (bytes ++ more) q rest → Finds q answer
+
+-- the answer is that fault, or a fault of the outside or want of memory
+abbrev pub Refuses : HeadFault → Bool → Next → Type 0
+Refuses fault of_head (next.Refused found by_head) = (found ≡ fault) × (by_head ≡ of_head)
+Refuses fault of_head next.ReadFault = ⊤
+Refuses fault of_head next.OutOfMemory = ⊤
+Refuses fault of_head _ = ⊥
+
+-- a fault by the fields of a whole head is answered, however few of the bytes were taken when the call answered
+abbrev pub RefusedHoweverCut : Type 0
+RefusedHoweverCut =
+    (bytes more : List ℕ) (answer : Next) (held : List ℕ) (fault : HeadFault) (of_head : Bool)
+    → Gives bytes (Some more) answer held → FaultByFields (bytes ++ more) fault of_head → Refuses fault of_head answer
+
+-- the answer is that the input is cut short, or a fault of the outside or want of memory
+abbrev pub IsCut : Next → Type 0
+IsCut next.CutShort = ⊤
+IsCut next.ReadFault = ⊤
+IsCut next.OutOfMemory = ⊤
+IsCut _ = ⊥
+
+-- a whole head without its whole body is cut short
+abbrev pub CutInBody : Type 0
+CutInBody =
+    (bytes more : List ℕ) (answer : Next) (held : List ℕ) → Gives bytes (Some more) answer held → LacksBody (bytes ++ more) → IsCut answer
+
+-- the answer is the end, or a fault of the outside or want of memory
+abbrev pub IsEnd : Next → Type 0
+IsEnd next.Ended = ⊤
+IsEnd next.ReadFault = ⊤
+IsEnd next.OutOfMemory = ⊤
+IsEnd _ = ⊥
+
+-- where no byte is held or left, the answer is the end, and nowhere else
+abbrev pub EndsAtTheEnd : Type 0
+EndsAtTheEnd =
+    ((answer : Next) (held : List ℕ) → Gives [] (Some []) answer held → IsEnd answer)
+    × ((bytes more held : List ℕ) → Gives bytes (Some more) next.Ended held → bytes ++ more ≡ [])
 
 -- the bytes begin with at most one request
 abbrev pub OneRequest : Type 0
