@@ -7,3 +7,5 @@
 mod paths;
 #[cfg(test)]
 mod roots;
+#[cfg(test)]
+mod tables;

@@ -1,6 +1,6 @@
 use merkle_tree::{
     Hash, NodeTable, consistency_laws, inclusion_laws, leaf_hash, node_hash, path_laws, proof_laws,
-    root_from_path, roots_from_consistency, subtree_laws, tree_hash,
+    root_from_path, roots_from_consistency, tree_hash,
 };
 use std::alloc::{AllocError, Global};
 use std::process::Abort;
@@ -166,7 +166,6 @@ fn paths_that_do_not_fit(rt: HostRuntime) {
     consistency_laws();
     path_laws();
     proof_laws();
-    subtree_laws();
 }
 
 fn check_paths(

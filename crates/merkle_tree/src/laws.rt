@@ -1,7 +1,8 @@
-ghost use Rattle.std.specs.Prelude.{◌≡◌, ℕ, ◌+◌, ◌*◌, ◌^◌, ◌-◌, ◌<◌, ◌≤◌, List, [], ◌∷◌, ◌++◌, length, take, drop, map, slice_get, Some, Bool, false};
+// Laws over all lists of entries, paths and proofs.
+
+ghost use Rattle.std.specs.Prelude.{◌≡◌, ℕ, ◌-◌, ◌<◌, ◌≤◌, List, [], ◌∷◌, ◌++◌, length, take, drop, map, slice_get, Some, Bool, false};
 ghost use Rattle.sha2.specs.Sha256.{sha256};
 ghost use Rattle.merkle_tree.specs.Mth.{leaf_hash, node_hash, split_point, mth, tree_root, IsLargestPowerBelow, IsWholeFront};
-ghost use Rattle.merkle_tree.specs.Levels.{nodes_at};
 ghost use Rattle.merkle_tree.specs.Paths.{path_of, root_from, tree_path};
 ghost use Rattle.merkle_tree.specs.Consistency.{proof_of, roots_from, sub_of, tree_proof, unless_whole};
 ghost use Rattle.merkle_tree.specs.Inputs.{Collides, path_inputs, proof_inputs, tree_inputs};
@@ -78,10 +79,4 @@ pub fn proof_laws()
     ensures leaves { (m : ℕ) (leaves : List (List ℕ)) → 0 < m → m ≤ length leaves
         → roots_from m (length leaves) (tree_root (take m leaves)) (tree_proof m leaves) ≡ Some (tree_root (take m leaves), tree_root leaves) }
     ensures of_entries { (m : ℕ) (entries : List (List ℕ)) → proof_of m entries ≡ tree_proof m (map leaf_hash entries) }
-{}
-
-/// A node of a level is the root of the whole subtree below it: node `q` of level `j` that of the `q`-th run of 2 ^ j leaves.
-pub fn subtree_laws()
-    ensures subtree { (j q : ℕ) (leaves : List (List ℕ)) → 2 ^ j * (q + 1) ≤ length leaves
-        → slice_get (nodes_at j leaves) q ≡ Some (tree_root (take (2 ^ j) (drop (2 ^ j * q) leaves))) }
 {}

@@ -1,33 +1,38 @@
-ghost use Rattle.std.specs.Prelude.{◌≡◌, ℕ, ◌+◌, ◌-◌, ◌<◌, ◌≤◌, List, [], ◌∷◌, ◌++◌, length, take, map, slice_get, Some, OnOk, OnErr, IfOk};
+// The table of leaves.
+
+ghost use Rattle.std.specs.Prelude.{◌≡◌, ℕ, ◌+◌, ◌^◌, ◌<◌, ◌≤◌, List, [], ◌∷◌, ◌++◌, length, take, map, slice_get, Some, OnOk, OnErr, IfOk};
 ghost use Rattle.merkle_tree.specs.Mth.{leaf_hash, mth, tree_root};
 ghost use Rattle.merkle_tree.specs.Paths.{path_of, tree_path};
 ghost use Rattle.merkle_tree.specs.Consistency.{proof_of, tree_proof};
 
-use crate::frontier::Frontier;
-use crate::hashes::Hash;
+use crate::hashes::{Hash, empty_root};
+use crate::noting::note_subtrees;
 use crate::path::Path;
-use crate::plain::tree_hash;
-use crate::proving::{put_path, put_proof};
+use crate::runs::Runs;
 use std::alloc::{AllocError, Global};
 use std::marker::Model;
 
-/// The leaves of a tree by their hashes, with room for more.
+/// The leaves of a tree by their hashes, with room for more, and the roots of their whole subtrees.
 #[derive(Drop)]
 pub struct NodeTable {
     alloc: Global,
     leaves: Vec<Hash>,
+    // The root of each whole subtree of two leaves and more stands at the place of its middle; what stands elsewhere means
+    // nothing.
+    inner: Vec<Hash>,
     spare: u32,
 }
 
 impl Model for NodeTable {
-    ghost use Rattle.std.specs.Prelude.{ℕ, ◌+◌, ◌≤◌, ◌<◌, ◌^◌, length, vec_len, vec_capacity};
+    ghost use Rattle.std.specs.Prelude.{◌≡◌, ℕ, ◌+◌, ◌≤◌, ◌<◌, ◌^◌, length, vec_len, vec_capacity};
     ghost use Rattle.merkle_tree.specs.Table.{Table};
+    ghost use Rattle.merkle_tree.specs.Subtrees.{HasInner};
 
     ghost Value = { Table };
 
     ghost view = { λ t. record { leaves = t.leaves.items; spare = t.spare } };
 
-    ghost invariant = { λ t. (vec_len t.leaves + t.spare ≤ vec_capacity t.leaves) × (vec_len t.leaves < 2 ^ 32) };
+    ghost invariant = { λ t. (vec_len t.leaves + t.spare ≤ vec_capacity t.leaves) × (vec_len t.inner + t.spare ≤ vec_capacity t.inner) × (vec_len t.leaves < 2 ^ 32) × (vec_len t.inner ≡ vec_len t.leaves) × HasInner t.leaves.items t.inner.items };
 }
 
 impl NodeTable {
@@ -39,11 +44,12 @@ impl NodeTable {
         NodeTable {
             alloc,
             leaves: Vec::new(alloc),
+            inner: Vec::new(alloc),
             spare: 0,
         }
     }
 
-    /// Makes room for one leaf more, where there is none.
+    /// Makes room for one leaf more, where there is none. Without memory the table stays as it was.
     pub fn reserve(&mut self) -> Result<(), AllocError>
         requires few { length self.old.leaves < 4294967295 }
         ensures leaves { self.new.leaves ≡ self.old.leaves }
@@ -52,12 +58,13 @@ impl NodeTable {
     {
         if self.spare == 0 {
             self.leaves.reserve(1)?;
+            self.inner.reserve(1)?;
             self.spare = 1;
         }
         Ok(())
     }
 
-    /// Adds a leaf by its hash. It takes no memory.
+    /// Adds a leaf by its hash. It takes no memory, and one node hash on average.
     pub fn push(&mut self, leaf: Hash)
         requires few { length self.old.leaves < 4294967295 }
         requires room { 0 < self.old.spare }
@@ -65,7 +72,9 @@ impl NodeTable {
         ensures spare { self.new.spare + 1 ≡ self.old.spare }
     {
         self.leaves.push(leaf).unwrap();
+        self.inner.push([0; 32]).unwrap();
         self.spare -= 1;
+        note_subtrees(self.leaves.as_slice(), self.inner.as_mut_slice());
     }
 
     /// How many leaves there are.
@@ -96,7 +105,10 @@ impl NodeTable {
         ensures root { result ≡ tree_root (take size self.now.leaves) }
         ensures of_entries { (entries : List (List ℕ)) → map leaf_hash entries ≡ take size self.now.leaves → result ≡ mth entries }
     {
-        tree_hash(&self.leaves.as_slice()[..size as usize])
+        if size == 0 {
+            return empty_root();
+        }
+        self.runs().root(0, size as usize)
     }
 
     /// The path from a leaf to the root of the first leaves (RFC 9162, 2.1.3.1).
@@ -107,11 +119,8 @@ impl NodeTable {
         ensures of_entries { (entries : List (List ℕ)) → map leaf_hash entries ≡ take size self.now.leaves → IfOk result (λ path. path ≡ path_of index entries) }
     {
         let mut path = Path::new(self.alloc);
-        put_path(
-            &mut path,
-            index as usize,
-            &self.leaves.as_slice()[..size as usize],
-        )?;
+        let runs = self.runs();
+        runs.put_path(&mut path, 0, size as usize, index as usize)?;
         Ok(path)
     }
 
@@ -124,12 +133,8 @@ impl NodeTable {
         ensures of_entries { (entries : List (List ℕ)) → map leaf_hash entries ≡ take size self.now.leaves → IfOk result (λ path. path ≡ proof_of old entries) }
     {
         let mut path = Path::new(self.alloc);
-        put_proof(
-            &mut path,
-            old as usize,
-            true,
-            &self.leaves.as_slice()[..size as usize],
-        )?;
+        let runs = self.runs();
+        runs.put_proof(&mut path, 0, size as usize, old as usize, true)?;
         Ok(path)
     }
 
@@ -139,10 +144,11 @@ impl NodeTable {
         ensures root { result ≡ tree_root (self.now.leaves ++ more.now) }
         ensures of_entries { (entries : List (List ℕ)) → map leaf_hash entries ≡ self.now.leaves ++ more.now → result ≡ mth entries }
     {
-        let mut frontier = Frontier::new();
-        push_all(&mut frontier, self.leaves.as_slice());
-        push_all(&mut frontier, more);
-        frontier.root()
+        let size = self.leaves.len() + more.len();
+        if size == 0 {
+            return empty_root();
+        }
+        self.runs_with(more).root(0, size)
     }
 
     /// The path of a leaf in the tree of the leaves followed by more of them.
@@ -152,19 +158,33 @@ impl NodeTable {
         ensures path { IfOk result (λ path. path ≡ tree_path index (self.now.leaves ++ more.now)) }
         ensures of_entries { (entries : List (List ℕ)) → map leaf_hash entries ≡ self.now.leaves ++ more.now → IfOk result (λ path. path ≡ path_of index entries) }
     {
-        let mut all = Vec::from_slice(self.alloc, self.leaves.as_slice())?;
-        all.extend_from_slice(more)?;
         let mut path = Path::new(self.alloc);
-        put_path(&mut path, index as usize, all.as_slice())?;
+        let size = self.leaves.len() + more.len();
+        let runs = self.runs_with(more);
+        runs.put_path(&mut path, 0, size, index as usize)?;
         Ok(path)
     }
-}
 
-fn push_all(frontier: &mut Frontier, leaves: &[Hash])
-    requires { length frontier.old + length leaves.now ≤ 4294967295 }
-    ensures { frontier.new ≡ frontier.old ++ leaves.now }
-{
-    for leaf in leaves {
-        frontier.push(*leaf);
+    fn runs(&self) -> Runs<'_>
+        ensures leaves { result ≡ self.now.leaves }
+        ensures few { length self.now.leaves < 2 ^ 32 }
+    {
+        Runs {
+            leaves: self.leaves.as_slice(),
+            inner: self.inner.as_slice(),
+            more: &[],
+        }
+    }
+
+    // The leaves followed by more of them.
+    fn runs_with<'a>(&'a self, more: &'a [Hash]) -> Runs<'a>
+        requires { length self.now.leaves + length more.now ≤ 4294967295 }
+        ensures { result ≡ self.now.leaves ++ more.now }
+    {
+        Runs {
+            leaves: self.leaves.as_slice(),
+            inner: self.inner.as_slice(),
+            more,
+        }
     }
 }

@@ -1,0 +1,4 @@
+use Rattle.merkle_tree.proofs.runs.Runs.+put_path.Given as goal
+
+abbrev pub decreases-put_path : goal.decreases-put_path
+decreases-put_path l = l.len
