@@ -1,5 +1,6 @@
 // Indices are given once each, in order, until none is left.
 use crate::making::{made_on, one_level};
+use hss_keys::{Level, Levels, LmsType, OtsType};
 use key_store::{KeyFile, KeyStop, TakeStop};
 use scitt_disk::{MemDisk, SureDisk};
 use std::test::Fail;
@@ -35,7 +36,7 @@ fn gives_each_index_once_and_is_exhausted(rt: HostRuntime) -> Result<(), Fail> {
     Ok(())
 }
 
-// The file by 04's layout in RFC 8949's bytes: a gate, a length, `[0, 1, seed, identifier, [[5, 4]], 3]`, a gate.
+// By the bytes of RFC 8949: a gate, a length, `[0, 1, seed, identifier, [[5, 4]], 3]`, a gate.
 #[test]
 fn makes_these_bytes_and_loads_from_the_last_reservation(rt: HostRuntime) -> Result<(), Fail> {
     let alloc = rt.alloc();
@@ -43,11 +44,6 @@ fn makes_these_bytes_and_loads_from_the_last_reservation(rt: HostRuntime) -> Res
     let Some(Ok(file)) = made_on(alloc, disk, 3) else {
         return Err(Fail::new("no key file"));
     };
-    let Ok(signer) = file.signer(alloc) else {
-        return Err(Fail::new("no memory"));
-    };
-    assert_eq!(rt; signer.capacity(), 32);
-    assert_eq!(rt; signer.prepared(), 0);
     let mut expected = [1, 0, 0, 0, 59, 0x86, 0, 1, 0x58, 32].to_vec(alloc)?;
     for _ in 0..32 {
         expected.push(7)?;
@@ -99,5 +95,27 @@ fn a_disk_that_tells_nothing_gives_indices_too(rt: HostRuntime) -> Result<(), Fa
     };
     assert!(rt; refused.why == KeyStop::NoKey);
     assert!(rt; one_level().is_some());
+    Ok(())
+}
+
+#[test]
+fn makes_its_signer(rt: HostRuntime) -> Result<(), Fail> {
+    let alloc = rt.alloc();
+    let level = Level {
+        lms: LmsType::H5,
+        ots: OtsType::W1,
+    };
+    let levels = Levels::of(&[level]).ok_or("no levels")?;
+    let disk = MemDisk::new(Vec::new(alloc), Vec::new(alloc));
+    let Ok(file) = KeyFile::create(alloc, disk, [7; 32], [9; 16], levels, 1) else {
+        return Err(Fail::new("no key file"));
+    };
+    let Ok(signer) = file.signer(alloc) else {
+        return Err(Fail::new("no memory"));
+    };
+    assert_eq!(rt; signer.capacity(), 32);
+    assert_eq!(rt; signer.prepared(), 0);
+    // 4, and 4 + 8516 + 4 + 32 * 5 for one level (RFC 8554, 5.4 and 6.2)
+    assert_eq!(rt; signer.sig_len(), 8688);
     Ok(())
 }
