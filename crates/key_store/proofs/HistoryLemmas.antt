@@ -1,11 +1,11 @@
 -- No index is given twice, over every list of calls, stops and loads.
-use Rattle.std.proofs.Common.{◌≡◌, ℕ, ◌+◌, ◌<◌, ◌≤◌, ◌⊎◌, inl, inr, List, [], ◌∷◌, ◌++◌, length, Option, None, Some, Result, Ok, Err, true, refl, sym, ap, ◌∙◌, subst, arith}
+use Rattle.std.proofs.Common.{◌≡◌, ℕ, ◌+◌, ◌≤◌, inl, inr, List, [], ◌∷◌, Option, None, Some, Result, Ok, Err, true, sym, ap, ◌∙◌, subst, arith}
 use Rattle.std.specs.Prelude.{IfSome}
 use Rattle.key_store.specs.declared.records.KeyHead.{KeyHead}
 use Rattle.key_store.specs.declared.stops.TakeStop.{TakeStop}
 use Rattle.key_store.specs.declared.stops.TakeStop.TheVariants.{Exhausted, DiskFault, OutOfMemory}
 use Rattle.key_store.specs.Records.{IsHead}
-use Rattle.key_store.specs.Keys.{reserved_of, key_of, fits_behind, IsKeyFile, KeyStanding, IsSound, IsReservation, Reserves, LeftPending, Takes, LeftBy}
+use Rattle.key_store.specs.Keys.{reserved_of, key_of, fits_behind, IsKeyFile, KeyStanding, IsSound, Reserves, LeftPending, Takes, LeftBy}
 use Rattle.key_store.specs.Histories.{KeyEvent, takes, stops, reloaded, Occurs, Runs, given, AllFrom, Rise}
 use Rattle.key_store.proofs.KeyLemmas.{key_more, reservation_fits, file_more, pending_fits, left_reserves}
 

@@ -1,18 +1,18 @@
 -- What the calls of a key file leave, from what its ledger's calls leave.
-use Rattle.std.proofs.Common.{◌≡◌, ℕ, ◌+◌, ◌<◌, ◌≤◌, ◌⊎◌, inl, inr, min, List, [], ◌∷◌, ◌++◌, length, Option, None, Some, refl, sym, ap, ◌∙◌, subst, arith}
-use Rattle.std.specs.Prelude.{true, Bool, ◌&&◌, IfSome, is_some}
+use Rattle.std.proofs.Common.{◌≡◌, ℕ, ◌+◌, ◌<◌, ◌≤◌, inl, inr, min, List, [], ◌∷◌, ◌++◌, length, Option, None, Some, refl, sym, ap, ◌∙◌, subst, arith}
+use Rattle.std.specs.Prelude.{true, IfSome}
 use Rattle.std.proofs.lemmas.Bool.{and_from, and_parts, lt-ltb, ltb-true, le-leb, cases_lt}
 use Rattle.std.proofs.lemmas.List.{take-append-le, take_all, get_or_at, get_or_append_left, length_push}
 use Rattle.std.proofs.Common.{take, get_or}
 use Rattle.scitt_disk.specs.Images.{Held, ImageNow, CrashLeaves}
 use Rattle.scitt_disk.specs.Laws.{StateGoesOn, EpochHasAll, StretchesJoin}
 use Rattle.scitt_disk.specs.Leaves.{leaves_weaker, leaves_still, leaves_then}
-use Rattle.scitt_journal.specs.Layout.{Recovers, OneOf}
+use Rattle.scitt_journal.specs.Layout.{OneOf}
 use Rattle.scitt_journal.specs.Keeping.{Between}
 use Rattle.hss_keys.specs.Levels.{capacity}
 use Rattle.key_store.specs.declared.records.KeyHead.{KeyHead}
 use Rattle.key_store.specs.Records.{head_of, upto_of, IsHead}
-use Rattle.key_store.specs.Keys.{reserved_of, key_of, reserve_holds, holds_after, fits_behind, fits_at, IsKeyFile, KeyStanding, IsSound, IsKept, IsReservation, LeftBy, LeavesMade, LeavesKey, HoldsAbove}
+use Rattle.key_store.specs.Keys.{reserved_of, key_of, holds_after, fits_behind, fits_at, IsKeyFile, KeyStanding, IsSound, IsKept, IsReservation, LeftBy, LeavesMade, LeavesKey, HoldsAbove}
 use Rattle.key_store.proofs.ListLemmas.{reserved_more}
 
 pub made_leaves : (head : KeyHead) (body : List ℕ) (old new : Held) → head_of body ≡ Some head → CrashLeaves (OneOf [] body) old new → CrashLeaves (LeavesMade head) old new

@@ -1,5 +1,5 @@
 -- What is spelled as a record of a key file reads as that record.
-use Rattle.std.proofs.Common.{◌≡◌, ℕ, ◌<◌, ◌≤◌, Bool, true, ◌&&◌, List, [], ◌∷◌, length, Option, None, Some, Result, Ok, Err, refl, sym, ap, ◌∙◌, arith}
+use Rattle.std.proofs.Common.{◌≡◌, ℕ, ◌≤◌, true, ◌&&◌, List, [], ◌∷◌, length, Option, None, Some, Result, Ok, Err, refl, ap, ◌∙◌}
 use Rattle.std.specs.Prelude.{map, option_and_then, option_map, nat_le, IfOk, ◌==◌}
 use Rattle.std.proofs.lemmas.Bool.{and_from, le-leb, eq-eqb}
 use Rattle.cbor_core.specs.declared.tree.Item.{Item}
@@ -14,7 +14,7 @@ use Rattle.lms_tree.specs.declared.types.LmsType.{LmsType}
 use Rattle.lms_tree.specs.declared.types.LmsType.TheVariants.{H5, H10, H15, H20, H25}
 use Rattle.lms_tree.specs.declared.types.Level.{Level}
 use Rattle.key_store.specs.declared.records.KeyHead.{KeyHead}
-use Rattle.key_store.specs.Records.{level_by, level_of_parts, level_in, level_item, levels_of, are_levels, kept_levels, levels_in, sized, sized_in, kept_block, block_in, head_from, head_of_parts, head_in, head_item, upto_of_parts, upto_in, upto_item, head_of, upto_of, IsHead}
+use Rattle.key_store.specs.Records.{level_by, level_of_parts, level_in, level_item, levels_of, are_levels, kept_levels, levels_in, sized, sized_in, kept_block, block_in, head_of_parts, head_in, head_item, upto_of_parts, upto_in, upto_item, head_of, upto_of, IsHead}
 use Rattle.key_store.proofs.LevelLemmas.{levels_from}
 
 uint_back : (n : ℕ) → uint_in (uint_item n) ≡ Some n

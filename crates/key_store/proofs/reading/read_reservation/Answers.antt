@@ -1,4 +1,4 @@
-use Rattle.std.proofs.Common.{◌≡◌, Some, sym, ◌∙◌, ap}
+use Rattle.std.proofs.Common.{◌≡◌, Some, sym, ◌∙◌}
 use Rattle.key_store.specs.Records.{upto_of}
 use Rattle.key_store.proofs.ListLemmas.{reserved_next}
 use Rattle.key_store.proofs.reading.read_reservation.Goals as goal

@@ -1,4 +1,4 @@
-use Rattle.std.proofs.Common.{◌≡◌, Some, length, arith}
+use Rattle.std.proofs.Common.{◌≡◌, Some, length}
 use Rattle.cbor_core.specs.Decoding.{strict_item}
 use Rattle.cbor_core.specs.Limits.{most_containers}
 use Rattle.cbor_core.specs.Fitting.{strict_len}

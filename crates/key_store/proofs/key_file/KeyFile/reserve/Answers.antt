@@ -1,7 +1,6 @@
 use Rattle.std.proofs.Common.{◌≡◌, ℕ, ◌+◌, ◌<◌, ◌∷◌, ◌++◌, [], List, IsTrue, None, Some, min, refl, sym, ap, ◌∙◌, arith}
 use Rattle.hss_keys.specs.Levels.{capacity}
 use Rattle.scitt_journal.specs.Keeping.{Kept}
-use Rattle.key_store.specs.Records.{upto_of}
 use Rattle.key_store.specs.Keys.{KeyStanding, Keyed, IsReservation}
 use Rattle.key_store.proofs.KeyLemmas.{still_leaves, written_leaves, kept_more}
 use Rattle.key_store.proofs.key_file.KeyFile.reserve.Goals as goal

@@ -1,4 +1,3 @@
-use Rattle.std.proofs.Common.{ℕ}
 use Rattle.key_store.proofs.KeyLemmas.{settle_leaves}
 use Rattle.key_store.proofs.key_file.KeyFile.settle.Goals as goal
 

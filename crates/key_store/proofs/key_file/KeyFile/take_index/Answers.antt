@@ -1,4 +1,4 @@
-use Rattle.std.proofs.Common.{◌≡◌, ℕ, ◌<◌, sym, ap, ◌∙◌, subst}
+use Rattle.std.proofs.Common.{◌<◌, sym, ap, subst}
 use Rattle.scitt_disk.specs.Images.{ImageNow, CrashLeaves}
 use Rattle.key_store.specs.Keys.{Keyed, LeavesKey, HoldsAbove, reserved_of}
 use Rattle.key_store.proofs.KeyLemmas.{settled_leaves, above_leaves, sure_above}
