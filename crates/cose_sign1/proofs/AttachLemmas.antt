@@ -1,6 +1,6 @@
 -- A message with a receipt attached is spelled, and is the same message with other receipts.
-use Rattle.std.proofs.Common.{◌≡◌, ℕ, zero, suc, ◌+◌, ◌*◌, ◌<◌, ◌≤◌, ◌^◌, Bool, true, false, cond, not, ◌&&◌, ◌||◌, ◌==◌, List, [], ◌∷◌, ◌++◌, length, Option, Some, None, refl, sym, ap, subst, ◌∙◌, arith, nat_lt, lt-ltb, le-leb, leb-true, eqb-true, length-append}
-use Rattle.std.specs.Prelude.{nat_le, option_and_then}
+use Rattle.std.proofs.Common.{◌≡◌, ℕ, suc, ◌+◌, ◌*◌, ◌≤◌, Bool, true, false, cond, not, ◌&&◌, ◌||◌, List, [], ◌∷◌, ◌++◌, length, Option, Some, None, refl, sym, ap, subst, ◌∙◌, arith, le-leb, eqb-true, length-append}
+use Rattle.std.specs.Prelude.{option_and_then}
 use Rattle.std.specs.Option.{option_map, is_some}
 use Rattle.std.proofs.lemmas.Bool.{and_parts, and_from, or_parts, both_ways, false_from_ne_true}
 use Rattle.cbor_core.specs.declared.words.Grammar.TheVariants.{Strict, Wide}
@@ -8,12 +8,12 @@ use Rattle.cbor_core.specs.declared.heads.Size.{Size}
 use Rattle.cbor_core.specs.declared.heads.Size.TheVariants.{Within, One, Two, Four, Eight}
 use Rattle.cbor_core.specs.declared.tree.Item.{Item}
 use Rattle.cbor_core.specs.declared.tree.Node.{Node-F, out-Node}
-use Rattle.cbor_core.specs.declared.tree.Node.TheVariants.{Array, Map, rolls-Array, outs-Uint, outs-Bytes, outs-Array, outs-Map, outs-Tag, outs-Simple}
+use Rattle.cbor_core.specs.declared.tree.Node.TheVariants.{Array, outs-Uint, outs-Bytes, outs-Array, outs-Map, outs-Tag, outs-Simple}
 use Rattle.cbor_core.specs.Bytes.{is_below}
 use Rattle.cbor_core.specs.Limits.{longest_string, most_parts}
 use Rattle.cbor_core.specs.Tree.{Layer, same, is_key}
 use Rattle.cbor_core.specs.Spells.{SpellEach, SpellPairs, SpellsLayer, SpellsIn, Spells}
-use Rattle.cbor_core.specs.Encoding.{size_of, head_size, spell_in, flat, most}
+use Rattle.cbor_core.specs.Encoding.{size_of, head_size, spell_in, most}
 use Rattle.cbor_core.specs.Decoding.{SameIsEqual}
 use Rattle.cbor_core.specs.Exact.{StrictIsWide}
 use Rattle.cbor_core.specs.Items.{uint_item, bytes_item, array_item, map_item, array_at, array_in}
@@ -21,8 +21,7 @@ use Rattle.cbor_core.specs.Fitting.{all_items, keys_rise, is_strict_item, len_su
 use Rattle.cose_sign1.specs.declared.labels.Label.{Label}
 use Rattle.cose_sign1.specs.declared.parts.Parts.{Parts}
 use Rattle.cose_sign1.specs.declared.sign1.Sign1.{Sign1}
-use Rattle.cose_sign1.specs.declared.stops.Sign1Stop.{Sign1Stop}
-use Rattle.cose_sign1.specs.declared.stops.Sign1Stop.TheVariants.{BadHeader, DupLabel, BadCrit}
+use Rattle.cose_sign1.specs.declared.stops.Sign1Stop.TheVariants.{BadHeader, BadCrit}
 use Rattle.cose_sign1.specs.Labels.{label_in, key_label, is_number_in, key_is, value_at, has_number}
 use Rattle.cose_sign1.specs.Kinds.{is_string, all_strings, is_receipts, kind_at, has_kind}
 use Rattle.cose_sign1.specs.Parts.{string_in, parts_in}
@@ -31,7 +30,7 @@ use Rattle.cose_sign1.specs.Message.{payload_item, message_parts, message_item}
 use Rattle.cose_sign1.specs.Sign1Of.{message_of, Sign1Of}
 use Rattle.cose_sign1.specs.Short.{StringsAreShort}
 use Rattle.cose_sign1.specs.Attached.{items_or, receipt_items, attached_entries, attached_item, attached_of, HasRoom}
-use Rattle.cose_sign1.proofs.WholeLemmas.{item_by, string_is}
+use Rattle.cose_sign1.proofs.WholeLemmas.{string_is}
 use Rattle.cose_sign1.proofs.BareLemmas.{or_none, if_none}
 use Rattle.cose_sign1.proofs.ShortLemmas.{unprotected_spelled, string_short}
 

@@ -1,5 +1,5 @@
 -- A key's item has strict bytes, and so has an array of such items.
-use Rattle.std.proofs.Common.{◌≡◌, ℕ, ◌+◌, ◌*◌, ◌<◌, ◌≤◌, true, ◌&&◌, List, [], ◌∷◌, ◌++◌, length, take, map, get_or, refl, sym, ap, subst, le-leb, arith, ◌∙◌, length-append}
+use Rattle.std.proofs.Common.{◌≡◌, ℕ, ◌+◌, ◌*◌, ◌<◌, ◌≤◌, true, List, [], ◌∷◌, ◌++◌, length, take, map, get_or, refl, sym, ap, subst, le-leb, arith, ◌∙◌, length-append}
 use Rattle.std.proofs.lemmas.List.{take_more, map-append}
 use Rattle.std.proofs.lemmas.Bool.{and_parts, and_from}
 use Rattle.cbor_core.specs.declared.heads.Size.{Size}
@@ -9,7 +9,7 @@ use Rattle.cbor_core.specs.declared.tree.Item.{Item}
 use Rattle.cbor_core.specs.Bytes.{is_below}
 use Rattle.cbor_core.specs.Limits.{longest_string, most_parts}
 use Rattle.cbor_core.specs.Encoding.{size_of, head_size, spell_in, most}
-use Rattle.cbor_core.specs.Items.{uint_item, nint_item, bytes_item, array_item, map_item}
+use Rattle.cbor_core.specs.Items.{array_item, map_item}
 use Rattle.cbor_core.specs.Fitting.{all_items, keys_rise, is_strict_item, len_sum, strict_len, UintFits, NintFits, BytesFit, ArrayFits, MapFits, UintText, NintText, UintLength, NintLength, BytesLength, ArrayLength, MapLength}
 use Rattle.cose_sign1.specs.KeySet.{key_entries, key_item, IsKeyItem, AreKeyItems}
 

@@ -1,6 +1,6 @@
 -- What a receipt within the limits is written as is read as that receipt.
 use Rattle.std.proofs.Common.{◌≡◌, ℕ, ◌≤◌, Bool, true, ◌&&◌, List, [], ◌∷◌, ◌++◌, length, map, refl, sym, ap, ◌∙◌, nat_le}
-use Rattle.std.specs.Prelude.{◌==◌, Option, Some, None, option_map, option_and_then, Result, Ok, Err, if◌then◌else◌}
+use Rattle.std.specs.Prelude.{◌==◌, Option, Some, None, option_map, option_and_then, Result, Ok, if◌then◌else◌}
 use Rattle.std.proofs.lemmas.Bool.{eq-eqb, le-leb, and_from}
 use Rattle.std.proofs.lemmas.List.{append-nil, append_assoc, length-map}
 use Rattle.cbor_core.specs.declared.tree.Item.{Item}
@@ -16,9 +16,9 @@ use Rattle.receipts.specs.declared.receipt.Proof.{Proof}
 use Rattle.receipts.specs.declared.receipt.Proof.TheVariants.{Inclusion, Consistency}
 use Rattle.receipts.specs.declared.receipt.Receipt.{Receipt}
 use Rattle.receipts.specs.Steps.{and_then, or_stop}
-use Rattle.receipts.specs.Form.{number_to, hash_in, name_in, alone, has_keys, named, protected_pairs, protected_in, only, proof_text, proof_item, hashes_onto, path_in, led, led_by, led_in, registered, inclusion, consistency, proof_in, items_under, tagged_items, made_of, receipt_with, receipt_outer, receipt_by, receipt_in}
+use Rattle.receipts.specs.Form.{number_to, hash_in, name_in, alone, has_keys, named, protected_pairs, protected_in, only, proof_item, hashes_onto, path_in, led, led_by, led_in, registered, inclusion, consistency, proof_in, items_under, made_of, receipt_with, receipt_outer, receipt_by, receipt_in}
 use Rattle.receipts.specs.Written.{claims_item, protected_entries, protected_item, hashes_item, led_item, held_item, proofs_item, proof_inner, proof_entries, unprotected_item, receipt_parts, receipt_item}
-use Rattle.receipts.specs.Fits.{AreHashes, IsPath, ProofFits, NameFits, Fits}
+use Rattle.receipts.specs.Fits.{AreHashes, IsPath, ProofFits, Fits}
 
 -- an item has strict bytes, which spell it
 abbrev pub IsHeld : Item → Type 0

@@ -1,6 +1,5 @@
 -- The items of a receipt have strict bytes, and few.
-use Rattle.std.proofs.Common.{◌≡◌, ℕ, ◌+◌, ◌*◌, ◌≤◌, ◌<◌, ◌^◌, Bool, true, ◌&&◌, List, [], ◌∷◌, length, map, Option, Some, refl, sym, ap, ◌∙◌, nat_lt, lt-ltb, le-leb, arith}
-use Rattle.std.specs.Prelude.{nat_le}
+use Rattle.std.proofs.Common.{◌≡◌, ℕ, ◌*◌, ◌≤◌, ◌<◌, ◌^◌, true, List, [], ◌∷◌, length, map, Option, refl, ap, ◌∙◌, lt-ltb, le-leb, arith}
 use Rattle.std.specs.Str.{is_utf8}
 use Rattle.std.proofs.lemmas.Bool.{and_from}
 use Rattle.std.proofs.lemmas.List.{length-map}
@@ -12,12 +11,12 @@ use Rattle.cbor_core.specs.Bytes.{is_below}
 use Rattle.cbor_core.specs.Limits.{longest_string, most_parts}
 use Rattle.cbor_core.specs.Encoding.{size_of, head_size, spell_in, flat, text_or, most}
 use Rattle.cbor_core.specs.Exact.{strict_text, SpelledIsText}
-use Rattle.cbor_core.specs.Items.{uint_item, nint_item, bytes_item, text_item, array_item, map_item, tag_item, nil_item}
+use Rattle.cbor_core.specs.Items.{uint_item, nint_item, bytes_item, text_item, array_item, map_item}
 use Rattle.cbor_core.specs.Fitting.{all_items, keys_rise, is_strict_item, len_sum, strict_len, StrictIsSpelled, UintFits, NintFits, BytesFit, TextFits, ArrayFits, MapFits, TagFits, SimpleFits, UintText, NintText, UintLength, NintLength, BytesLength, TextLength, ArrayLength, MapLength, TagLength, SimpleLength}
 use Rattle.receipts.specs.declared.receipt.Proof.{Proof}
 use Rattle.receipts.specs.declared.receipt.Proof.TheVariants.{Inclusion, Consistency}
 use Rattle.receipts.specs.declared.receipt.Receipt.{Receipt}
-use Rattle.receipts.specs.Written.{claims_item, protected_entries, protected_item, hashes_item, led_item, held_item, proofs_item, proof_inner, proof_entries, unprotected_item, receipt_parts, receipt_item}
+use Rattle.receipts.specs.Written.{claims_item, protected_entries, protected_item, hashes_item, led_item, proofs_item, proof_inner, proof_entries, unprotected_item, receipt_parts, receipt_item}
 use Rattle.receipts.specs.Fits.{AreHashes, IsPath, ProofFits, NameFits, Fits}
 
 -- the strict bytes of an item are as many as its parts say

@@ -1,9 +1,8 @@
 -- The laws of a receipt within the limits, from those of its items.
-use Rattle.std.proofs.Common.{◌≡◌, ℕ, ◌≤◌, true, List, length, Some, Ok, Result, ap, ◌∙◌, arith}
-use Rattle.std.specs.Prelude.{Option, option_and_then}
+use Rattle.std.proofs.Common.{◌≤◌, length, Result, ap, ◌∙◌, arith}
+use Rattle.std.specs.Prelude.{option_and_then}
 use Rattle.std.specs.Result.{result_ok}
 use Rattle.cbor_core.specs.declared.tree.Item.{Item}
-use Rattle.cbor_core.specs.Limits.{longest_string}
 use Rattle.cbor_core.specs.Decoding.{SpelledIsItem}
 use Rattle.cbor_core.specs.Exact.{strict_text, SpelledIsText}
 use Rattle.cbor_core.specs.Fitting.{StrictIsSpelled, StrictReadsAgain, UintFits, NintFits, BytesFit, TextFits, ArrayFits, MapFits, TagFits, SimpleFits, UintText, NintText, UintLength, NintLength, BytesLength, TextLength, ArrayLength, MapLength, TagLength, SimpleLength}

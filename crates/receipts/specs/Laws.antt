@@ -4,7 +4,6 @@ use Rattle.cbor_core.specs.declared.words.Grammar.TheVariants.{Strict}
 use Rattle.cbor_core.specs.Limits.{longest_string, most_containers}
 use Rattle.cbor_core.specs.Spells.{Spells}
 use Rattle.cbor_core.specs.Encoding.{most}
-use Rattle.cbor_core.specs.Exact.{strict_text}
 use Rattle.cbor_core.specs.Fitting.{is_strict_item, strict_len}
 use Rattle.receipts.specs.declared.receipt.Receipt.{Receipt}
 use Rattle.receipts.specs.declared.receipt.Proof.{Proof}

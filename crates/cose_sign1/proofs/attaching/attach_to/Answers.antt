@@ -1,10 +1,9 @@
-use Rattle.std.proofs.Common.{◌≡◌, Err, sym, ap, subst, ◌∙◌}
+use Rattle.std.proofs.Common.{Err, ap, subst, ◌∙◌}
 use Rattle.cbor_core.specs.declared.words.Grammar.TheVariants.{Strict}
 use Rattle.cbor_core.specs.declared.words.EncodeStop.{EncodeStop}
 use Rattle.cbor_core.specs.declared.words.EncodeStop.TheVariants.{NotStrict}
 use Rattle.cbor_core.specs.declared.tree.Item.{Item}
 use Rattle.cbor_core.specs.Spells.{Spells}
-use Rattle.cbor_core.specs.Encoding.{HasLength}
 use Rattle.cbor_core.specs.Items.{map_item}
 use Rattle.cose_sign1.specs.Message.{Encodes}
 use Rattle.cose_sign1.specs.Attached.{attached_entries, message_with, attached_item}

@@ -1,4 +1,4 @@
-use Rattle.std.proofs.Common.{refl, arith, ◌∙◌, sym, ◌≤◌, length, ◌≡◌, eqb-true}
+use Rattle.std.proofs.Common.{refl, arith, ◌∙◌, sym, length, ◌≡◌, eqb-true}
 use Rattle.cose_sign1.specs.Headers.{unprotected_fault}
 use Rattle.cose_sign1.proofs.WalkLemmas.{fault_ends}
 use Rattle.cose_sign1.proofs.headers.check_both.Goals as goal

@@ -1,10 +1,7 @@
-use Rattle.std.proofs.Common.{◌≡◌, ◌≤◌, ℕ, List, length, take, sym, ap, subst, ◌∙◌, arith}
+use Rattle.std.proofs.Common.{◌≤◌, ℕ, List, length, take, sym, ap, subst, ◌∙◌, arith}
 use Rattle.cbor_core.specs.Limits.{longest_string}
-use Rattle.cbor_core.specs.Exact.{strict_text}
 use Rattle.cose_sign1.specs.Tbs.{tbs_len, Tbs}
 use Rattle.cose_sign1.specs.OneTbs.{tbs_of}
-use Rattle.receipts.specs.Written.{protected_item}
-use Rattle.receipts.specs.Signed.{protected_text}
 use Rattle.receipts.proofs.SignedLemmas.{protected_is_text, protected_few, signed_length}
 use Rattle.receipts.proofs.signing.tbs_into.Goals as goal
 
