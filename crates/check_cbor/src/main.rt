@@ -6,6 +6,8 @@
 
 #[cfg(test)]
 mod answers;
+#[cfg(test)]
+mod hostile;
 mod said;
 
 use std::io;
