@@ -37,7 +37,10 @@ fn a_crash_leaves_old_new_and_mixed_bytes(rt: HostRuntime) -> Result<(), Fail> {
     assert_eq!(rt; new.as_slice(), [1, 3, 3, 3, 3, 3].as_slice());
     let short = disk.crash(2)?.into_content();
     assert_eq!(rt; short.as_slice(), [1, 3, 3, 3].as_slice());
-    assert_eq!(rt; disk.crash(3)?.into_content().len(), 6);
+    let long = disk.crash(3)?.into_content();
+    assert_eq!(rt; long.as_slice(), [1, 1, 2, 2, 1, 1].as_slice());
+    let torn = disk.crash(4)?.into_content();
+    assert_eq!(rt; torn.as_slice(), [1, 3, 2, 3, 2, 3].as_slice());
     let mut mixed = false;
     for pick in 4..64 {
         let image = disk.crash(pick)?.into_content();

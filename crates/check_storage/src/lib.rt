@@ -7,6 +7,8 @@ mod disks;
 mod faults;
 #[cfg(test)]
 mod files;
+#[cfg(test)]
+mod ledgers;
 mod lending;
 mod reading;
 #[cfg(test)]

@@ -1,9 +1,9 @@
 // What a crash leaves of a file in memory.
-ghost use Rattle.std.specs.Prelude.{◌≡◌, ℕ, ◌+◌, ◌≤◌, ◌<◌, max, true, false, IfOk, OnOk, List, length, take, slice_index, if◌then◌else◌};
+ghost use Rattle.std.specs.Prelude.{◌≡◌, ℕ, ◌+◌, ◌-◌, ◌^◌, ◌≤◌, min, max, IfOk, OnOk, List, length, take, if◌then◌else◌};
 ghost use Rattle.scitt_disk.specs.Images.{Held, greatest, IsImage};
 ghost use Rattle.scitt_disk.specs.Changes.{fresh};
 ghost use Rattle.scitt_disk.specs.Calls.{replay, after_change, ends_epoch, end_of};
-ghost use Rattle.scitt_disk.specs.Mixed.{IsEither};
+ghost use Rattle.scitt_disk.specs.Mixed.{IsMixed, IsPicked, picked_len, picked_byte, takes_new};
 
 use crate::changes::Change;
 use crate::edits::overwrite;
@@ -25,6 +25,7 @@ pub fn image_of(
     pick: u64,
 ) -> Result<Vec<u8>, AllocError>
     requires { bytes.now ≡ (replay (fresh first.now) changes.now).seen }
+    ensures picked { IfOk result (λ v. IsPicked pick (replay (fresh first.now) changes.now) v.items) }
     ensures image { IfOk result (λ v. IsImage (replay (fresh first.now) changes.now).epoch v.items) }
     ensures oldest { IfOk result (λ v. pick ≡ 0
         → v.items ≡ (replay (fresh first.now) changes.now).epoch.synced) }
@@ -32,8 +33,8 @@ pub fn image_of(
 {
     let last = last_sync(changes);
     let synced = replayed(alloc, first, &changes[..last])?;
-    let longest = written_end(changes);
-    mixed(alloc, &synced, bytes, longest, pick)
+    let most = written_end(changes).max(bytes.len() as u64);
+    mixed(alloc, &synced, bytes, most, pick)
 }
 
 // How many changes there are up to the last sync.
@@ -72,9 +73,9 @@ fn repeat_change(bytes: &mut Vec<u8>, change: &Change) -> Result<(), AllocError>
     }
 }
 
-// Where the last of the ranges ends that were written since the last sync.
+// Where the last of the ranges ends that were written since the last sync, or the greatest number where it ends past that.
 fn written_end(changes: &[Change]) -> u64
-    ensures { (first : List ℕ) → result ≤ greatest 0 (replay (fresh first) changes.now).epoch.written }
+    ensures { (first : List ℕ) → result ≡ min (greatest 0 (replay (fresh first) changes.now).epoch.written) (2 ^ 64 - 1) }
 {
     let mut end = 0;
     for change in changes {
@@ -84,7 +85,7 @@ fn written_end(changes: &[Change]) -> u64
 }
 
 fn end_after(end: u64, change: &Change) -> u64
-    ensures { result ≤ (if ends_epoch change.now then 0 else max end (end_of change.now)) }
+    ensures { result ≡ min (if ends_epoch change.now then 0 else max end (end_of change.now)) (2 ^ 64 - 1) }
 {
     match change {
         Change::Wrote(at, piece) => end.max(at.saturating_add(piece.len() as u64)),
@@ -93,74 +94,49 @@ fn end_after(end: u64, change: &Change) -> u64
     }
 }
 
-// A mix of an old file and a new one, of some length.
-fn mixed(
-    alloc: Global,
-    old: &[u8],
-    new: &[u8],
-    longest: u64,
-    pick: u64,
-) -> Result<Vec<u8>, AllocError>
-    requires { length old.now ≤ length new.now }
-    ensures least { IfOk result (λ v. length old.now ≤ length v.items) }
-    ensures most { IfOk result (λ v. length v.items ≤ max (length new.now) longest) }
-    ensures bytes { IfOk result (λ v. (i : ℕ) → i < length old.now
-        → IsEither old.now new.now i (slice_index v.items i)) }
-    ensures oldest { IfOk result (λ v. pick ≡ 0 → v.items ≡ old.now) }
-    ensures newest { IfOk result (λ v. pick ≡ 1 → v.items ≡ new.now) }
+// A mix of an old file and a new one, of a length up to `most`.
+fn mixed(alloc: Global, old: &[u8], new: &[u8], most: u64, pick: u64) -> Result<Vec<u8>, AllocError>
+    ensures { IfOk result (λ v. IsMixed pick most old.now new.now v.items) }
 {
-    let len = chosen_len(old.len(), new.len(), longest, pick);
+    let len = chosen_len(old.len() as u64, new.len() as u64, most, pick);
     let mut image = Vec::new(alloc);
     for i in 0..len {
-        image.push(byte_at(old, new, i, pick))?;
+        image.push(byte_at(old, new, i as usize, pick))?;
     }
     Ok(image)
 }
 
-fn chosen_len(old: usize, new: usize, longest: u64, pick: u64) -> usize
-    requires { old ≤ new }
-    ensures least { old ≤ result }
-    ensures most { result ≤ max new longest }
-    ensures oldest { pick ≡ 0 → result ≡ old }
-    ensures newest { pick ≡ 1 → result ≡ new }
+fn chosen_len(old: u64, new: u64, most: u64, pick: u64) -> u64
+    ensures { result ≡ picked_len pick old new most }
 {
-    let longest = (longest as usize).max(new);
-    match pick {
-        0 | 2 => old,
-        1 => new,
-        3 => longest,
-        _ => old + (pick as usize / 4) % (longest - old).max(1),
+    if pick == 1 {
+        return new;
     }
+    if pick < 3 {
+        return old;
+    }
+    old.max(most.saturating_sub((pick / 4).saturating_sub(1)))
 }
 
-// The byte at place i: the old one, the new one, or one of this pick's own where there is no other.
+// The byte at place i: the new one, the old one, or one of this pick's own where there is no other.
 fn byte_at(old: &[u8], new: &[u8], i: usize, pick: u64) -> u8
-    requires { length old.now ≤ length new.now }
-    ensures either { i < length old.now → IsEither old.now new.now i result }
-    ensures oldest { pick ≡ 0 → i < length old.now → result ≡ slice_index old.now i }
-    ensures newest { pick ≡ 1 → i < length new.now → result ≡ slice_index new.now i }
+    ensures { result ≡ picked_byte pick old.now new.now i }
 {
-    if i < new.len() && takes_new(pick, i as u64) {
+    if i < new.len() && is_new(pick, i as u64) {
         return new[i];
     }
     if i < old.len() {
         return old[i];
     }
-    (pick / 4 % 3) as u8
+    (pick % 3 + 1) as u8
 }
 
-fn takes_new(pick: u64, i: u64) -> bool
-    ensures oldest { pick ≡ 0 → result ≡ false }
-    ensures newest { pick ≡ 1 → result ≡ true }
+fn is_new(pick: u64, i: u64) -> bool
+    ensures { result ≡ takes_new pick i }
 {
-    match pick {
-        0 | 3 => false,
-        1 | 2 => true,
-        _ => (pick
-            .wrapping_mul(0x9E37_79B9)
-            .wrapping_add(i.wrapping_mul(0x85EB_CA6B))
-            >> 13)
-            % 2
-            == 1,
+    if pick < 4 {
+        return pick == 1 || pick == 2;
     }
+    let run = pick % 4 + 1;
+    (pick / 4 % 2 + i / run % 2) % 2 == 0
 }

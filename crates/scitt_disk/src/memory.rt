@@ -3,6 +3,7 @@ ghost use Rattle.scitt_io.specs.Causes.{HasCause, Rose, raised};
 ghost use Rattle.scitt_disk.specs.Images.{ImageNow};
 ghost use Rattle.scitt_disk.specs.Changes.{fresh, after_write, after_sync, AfterFailedWrite};
 ghost use Rattle.scitt_disk.specs.Calls.{held_from};
+ghost use Rattle.scitt_disk.specs.Mixed.{IsPicked};
 ghost use Rattle.scitt_disk.specs.Failing.{FailsNow, Advances};
 
 use crate::changes::Change;
@@ -64,8 +65,10 @@ impl MemDisk {
 
     /// A disk that holds one of the images of this one, with nothing pending and no failing calls. Pick 0 gives the
     /// bytes at the last sync, pick 1 what a read gives, pick 2 the shortest file with new bytes and pick 3 the
-    /// longest with old ones; the others mix old and new bytes and take a length between.
+    /// longest with old ones; the others mix old and new bytes by turns, at each length from the longest down. Where there is
+    /// neither an old byte nor a new one that the pick takes, the byte is 1, 2 or 3.
     pub fn crash(&self, pick: u64) -> Result<MemDisk, AllocError>
+        ensures picked { IfOk result (λ d. (image : List ℕ) × IsPicked pick (held_of self.now) image × (held_of d ≡ fresh image)) }
         ensures image { IfOk result (λ d. (image : List ℕ) × ImageNow (held_of self.now) image × (held_of d ≡ fresh image)) }
         ensures oldest { IfOk result (λ d. pick ≡ 0
             → held_of d ≡ fresh (held_of self.now).epoch.synced) }

@@ -1,10 +1,10 @@
 -- What a journal keeps of a ledger's records, at rest and in need of repair.
-use Rattle.std.proofs.Common.{◌≡◌, ℕ, List, [], Option, None, Some, is_some, Bool, true, false, Result, Ok, Err, inl, inr, refl, sym, ap, subst}
+use Rattle.std.proofs.Common.{◌≡◌, ℕ, List, [], Option, None, Some, true, false, Result, Ok, Err, sym, ap, subst}
 use Rattle.std.specs.Prelude.{IfOk, slice_index_or}
 use Rattle.scitt_disk.specs.Images.{Held, ImageNow, CrashLeaves}
 use Rattle.scitt_disk.specs.Laws.{EpochHasAll, StateGoesOn}
-use Rattle.scitt_disk.specs.Leaves.{leaves_weaker, leaves_still}
-use Rattle.scitt_journal.specs.Layout.{Recovers, OneOf}
+use Rattle.scitt_disk.specs.Leaves.{leaves_still}
+use Rattle.scitt_journal.specs.Layout.{OneOf}
 use Rattle.scitt_journal.specs.Laws.{RestIsRecovered, DoubtIsOneOf}
 use Rattle.scitt_journal.specs.Log.{Log}
 use Rattle.scitt_journal.specs.State.{AtRest, InDoubt}

@@ -1,4 +1,4 @@
-use Rattle.std.proofs.Common.{IsTrue, ap}
+use Rattle.std.proofs.Common.{ap}
 use Rattle.scitt_journal.specs.Log.{Log}
 use Rattle.scitt_journal.specs.Keeping.{pending_of}
 use Rattle.scitt_journal.proofs.KeepingLemmas.{settle_leaves, settle_strays, settled_holds}
