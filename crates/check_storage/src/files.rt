@@ -2,6 +2,8 @@
 use scitt_disk::{Disk, FileDisk};
 use scitt_journal::{Journal, LoadStop};
 use std::fs;
+use std::fs::Permissions;
+use std::os::unix::fs::PermissionsExt;
 use std::test::Fail;
 
 #[test]
@@ -73,5 +75,66 @@ fn a_file_whose_name_is_gone_has_no_folder_to_sync(rt: HostRuntime) -> Result<()
     fs::rename(&rt, "moving/journal", "moving/moved")?;
     assert!(rt; disk.sync().is_ok(), "it is synced once");
     assert_eq!(rt; disk.faults(), 1);
+    Ok(())
+}
+
+// A file of the process's own that the system doesn't sync: its sync is asked for, and fails.
+#[test]
+fn a_file_whose_sync_failed_is_lost(rt: HostRuntime) -> Result<(), Fail> {
+    let alloc = rt.alloc();
+    let mut disk = FileDisk::new(rt.clone()?, String::from_str(alloc, "/proc/self/comm")?);
+    assert!(rt; disk.len() == Ok(0));
+    assert!(rt; disk.sync().is_err(), "it can't be synced");
+    assert!(rt; disk.len().is_err(), "and is lost");
+    assert!(rt; disk.write_at(0, &[1]).is_err());
+    assert_eq!(rt; disk.faults(), 3);
+    drop(disk);
+    let mut again = FileDisk::new(rt.clone()?, String::from_str(alloc, "/proc/self/comm")?);
+    assert!(rt; again.len() == Ok(0), "another one goes on");
+    Ok(())
+}
+
+#[test]
+fn an_open_file_is_locked(rt: HostRuntime) -> Result<(), Fail> {
+    let alloc = rt.alloc();
+    let mut disk = FileDisk::new(rt.clone()?, String::from_str(alloc, "locked")?);
+    assert!(rt; disk.write_at(0, &[1]).is_ok());
+    let mut other = FileDisk::new(rt.clone()?, String::from_str(alloc, "locked")?);
+    assert!(rt; other.len().is_err(), "it is another's");
+    drop(disk);
+    assert!(rt; other.len() == Ok(1));
+    assert_eq!(rt; other.faults(), 1);
+    Ok(())
+}
+
+#[test]
+fn a_private_file_is_its_owner_s_alone(rt: HostRuntime) -> Result<(), Fail> {
+    let alloc = rt.alloc();
+    let disk = FileDisk::private(rt.clone()?, String::from_str(alloc, "key")?);
+    let Ok(journal) = Journal::create(alloc, disk, &[2]) else {
+        return Err(Fail::new("no file is made"));
+    };
+    let _disk = journal.close();
+    assert_eq!(rt;
+        fs::metadata(&rt, "key")?.permissions().mode() & 0o777,
+        0o600
+    );
+    Ok(())
+}
+
+#[test]
+fn a_file_that_may_only_be_read_is_loaded(rt: HostRuntime) -> Result<(), Fail> {
+    let alloc = rt.alloc();
+    let disk = FileDisk::new(rt.clone()?, String::from_str(alloc, "kept")?);
+    let Ok(journal) = Journal::create(alloc, disk, &[2]) else {
+        return Err(Fail::new("no file is made"));
+    };
+    drop(journal.close());
+    fs::set_permissions(&rt, "kept", Permissions::from_mode(0o444))?;
+    let again = FileDisk::new(rt.clone()?, String::from_str(alloc, "kept")?);
+    let Ok(loaded) = Journal::load(alloc, again) else {
+        return Err(Fail::new("the file isn't loaded"));
+    };
+    assert_eq!(rt; loaded.count(), 1);
     Ok(())
 }

@@ -6,21 +6,27 @@ ghost use Rattle.scitt_disk.specs.SeenIsImage.{IsImage-from_fresh};
 
 use crate::device::{Disk, DiskFault};
 use std::alloc::Global;
-use std::fs::{File, OpenOptions};
+use std::fs::{File, OpenOptions, TryLockError};
 use std::io;
 use std::io::ErrorKind;
-use std::os::unix::fs::FileExt;
+use std::os::unix::fs::{FileExt, OpenOptionsExt};
 use std::rt::Files;
 
 /// A file of the system as a disk. It is made at the first write; until then a missing file has length 0. The first
 /// sync of the open file syncs its folder too, so that a new file's name is kept. What it holds isn't told: no clause
 /// can say what a real file gives.
+///
+/// While it is open it holds the file's lock, so that no other open of the file can be a disk too. Where the file may not
+/// be written it is opened for reading. After a sync of the file that failed each call is a fault, since what the system
+/// then holds of it isn't known: only another `FileDisk` can go on.
 #[derive(Drop)]
 pub struct FileDisk<R> {
     files: R,
     path: String,
+    mode: u32,
     file: Option<File>,
     is_name_synced: bool,
+    is_lost: bool,
     faults: u64,
 }
 
@@ -29,26 +35,59 @@ impl<R: Files<File = File>> FileDisk<R> {
     pub fn new(files: R, path: String) -> FileDisk<R>
         ensures { faults_of_file result ≡ 0 }
     {
-        FileDisk {
-            files,
-            path,
-            file: None,
-            is_name_synced: false,
-            faults: 0,
-        }
+        with_mode(files, path, 0o666)
+    }
+
+    /// The same, and where the file is made, only its owner may read or write it.
+    pub fn private(files: R, path: String) -> FileDisk<R>
+        ensures { faults_of_file result ≡ 0 }
+    {
+        with_mode(files, path, 0o600)
+    }
+}
+
+fn with_mode<R: Files<File = File>>(files: R, path: String, mode: u32) -> FileDisk<R>
+    ensures { faults_of_file result ≡ 0 }
+{
+    FileDisk {
+        files,
+        path,
+        mode,
+        file: None,
+        is_name_synced: false,
+        is_lost: false,
+        faults: 0,
+    }
+}
+
+// The file, with its lock.
+fn locked(file: File) -> io::Result<Option<File>> {
+    match file.try_lock() {
+        Ok(()) => Ok(Some(file)),
+        Err(TryLockError::Error(fault)) => Err(fault),
+        Err(TryLockError::WouldBlock) => Err(io::Error::from(ErrorKind::WouldBlock)),
     }
 }
 
 // Opens the file, and makes it where that is asked for. `None` where it is missing.
-fn open_file<R: Files<File = File>>(files: &R, path: &str, make: bool) -> io::Result<Option<File>> {
+fn open_file<R: Files<File = File>>(
+    files: &R,
+    path: &str,
+    make: bool,
+    mode: u32,
+) -> io::Result<Option<File>> {
     match OpenOptions::new()
         .read(true)
         .write(true)
         .create(make)
+        .mode(mode)
         .open(files, path)
     {
-        Ok(file) => Ok(Some(file)),
+        Ok(file) => locked(file),
         Err(fault) if fault.kind() == ErrorKind::NotFound => Ok(None),
+        Err(fault) if fault.kind() == ErrorKind::PermissionDenied && !make => {
+            locked(File::open(files, path)?)
+        }
         Err(fault) => Err(fault),
     }
 }
@@ -64,14 +103,17 @@ fn past_end() -> io::Error {
     io::Error::from(ErrorKind::UnexpectedEof)
 }
 
+// A read of some bytes finds the end by itself; only one of none has to ask for the length.
 fn read_file(file: Option<&File>, at: u64, buf: &mut [u8]) -> io::Result<()> {
-    let len = length_of(file)?;
-    if at > len || buf.len() as u64 > len - at {
-        return Err(past_end());
+    if buf.is_empty() {
+        if at > length_of(file)? {
+            return Err(past_end());
+        }
+        return Ok(());
     }
     match file {
         Some(file) => file.read_exact_at(buf, at),
-        None => Ok(()),
+        None => Err(past_end()),
     }
 }
 
@@ -113,8 +155,11 @@ impl<R: Files<File = File>> FileDisk<R> {
     fn open(&mut self, make: bool) -> io::Result<()>
         ensures { self.new.faults ≡ self.old.faults }
     {
+        if self.is_lost {
+            return Err(io::Error::from(ErrorKind::Other));
+        }
         if self.file.is_none() {
-            self.file = open_file(&self.files, self.path.as_str(), make)?;
+            self.file = open_file(&self.files, self.path.as_str(), make, self.mode)?;
         }
         Ok(())
     }
@@ -126,7 +171,10 @@ impl<R: Files<File = File>> FileDisk<R> {
         let Some(file) = self.file.as_ref() else {
             return Ok(());
         };
-        file.sync_all()?;
+        if let Err(fault) = file.sync_all() {
+            self.is_lost = true;
+            return Err(fault);
+        }
         if !self.is_name_synced {
             sync_folder(&self.files, *self.path.allocator(), self.path.as_str())?;
             self.is_name_synced = true;
