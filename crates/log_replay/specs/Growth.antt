@@ -1,0 +1,80 @@
+-- What holds of all logs.
+use Rattle.std.specs.Prelude.{◌≡◌, ◌↔◌, ℕ, ◌+◌, ◌<◌, ◌≤◌, true, List, [], ◌∷◌, ◌++◌, length, min, Option, Some, None, slice_get}
+use Rattle.hss_keys.specs.Levels.{capacity}
+use Rattle.hss_keys.specs.Functions.{hss_verifies, flat_index}
+use Rattle.statement.specs.Said.{Said, id_of}
+use Rattle.log_replay.specs.declared.parts.Header.{Header}
+use Rattle.log_replay.specs.declared.parts.BatchParts.{BatchParts}
+use Rattle.log_replay.specs.declared.words.Judgement.TheVariants.{Admit}
+use Rattle.log_replay.specs.Records.{Log, Entry, header_record, reserve_record, batch_record, record_of, header_of, leaves_of, entries_of, entry_of, reserved_of, used_of, logged_bytes}
+use Rattle.log_replay.specs.Judging.{judge, moment_after}
+use Rattle.log_replay.specs.WellMade.{WellMade, failing_of, header_holds, reserve_holds, text_signed, most_logged_bytes}
+
+-- a header stays
+abbrev pub HeaderStays : Type 0
+HeaderStays = (R S : Log) (h : Header) → header_of R ≡ Some h → header_of (R ++ S) ≡ Some h
+
+-- a well made log that has a record has a header, within the limits
+abbrev pub HeaderIsFirst : Type 0
+HeaderIsFirst = (body : List ℕ) (R : Log) → WellMade (body ∷ R) → (h : Header) × (header_of (body ∷ R) ≡ Some h) × (header_holds h ≡ true)
+
+-- an entry that the log admits, its Batch, and the signature at an index that is reserved and not used
+pub record IsAdmissible (R : Log) (h : Header) (s : Said) (m rule index : ℕ) (leaf signature body : List ℕ) : Type 0 where
+  pub headed : header_of R ≡ Some h
+  pub reads : record_of body ≡ Some (batch_record (record { entries = leaf ∷ []; index = index; signature = signature }))
+  pub entry : entry_of leaf ≡ Some (record { at = moment_after (entries_of R) m; rule = rule; statement = s })
+  pub judged : judge h (entries_of R) s m ≡ Admit rule
+  pub room : length (entries_of R) + 1 ≤ h.max_entries
+  pub bytes : logged_bytes (entries_of R) + length s.logged ≤ most_logged_bytes
+  pub indexed : flat_index h.levels signature ≡ Some index
+  pub reserved : index < reserved_of R
+  pub above : used_of R ≤ index
+  pub signed : hss_verifies h.key signature (text_signed h (leaves_of R ++ leaf ∷ [])) ≡ true
+
+-- its Batch fails no rule
+abbrev pub AdmissibleFits : Type 0
+AdmissibleFits =
+    (R : Log) (h : Header) (s : Said) (m rule index : ℕ) (leaf signature body : List ℕ) → IsAdmissible R h s m rule index leaf signature body → failing_of R body ≡ None
+
+-- the next reservation fails no rule, where an index is left
+abbrev pub ReserveFits : Type 0
+ReserveFits =
+    (R : Log) (h : Header) (body : List ℕ) → header_of R ≡ Some h → 1 ≤ h.block → reserved_of R < capacity h.levels
+    → record_of body ≡ Some (reserve_record (min (reserved_of R + h.block) (capacity h.levels))) → failing_of R body ≡ None
+
+-- a header within the limits, whose key names its levels, fails no rule as the first record
+abbrev pub HeaderFits : Type 0
+HeaderFits = (h : Header) (body : List ℕ) → record_of body ≡ Some (header_record h) → header_holds h ≡ true → failing_of [] body ≡ None
+
+-- what a Reserve that fails no rule says
+abbrev pub ReserveRises : Type 0
+ReserveRises = (R : Log) (h : Header) (body : List ℕ) (upto : ℕ) → header_of R ≡ Some h → record_of body ≡ Some (reserve_record upto) → failing_of R body ≡ None
+    → reserve_holds h (reserved_of R) upto ≡ true
+
+-- what a Batch that fails no rule says of its index
+abbrev pub IndexRises : Type 0
+IndexRises = (R : Log) (h : Header) (body : List ℕ) (b : BatchParts) → header_of R ≡ Some h → record_of body ≡ Some (batch_record b) → failing_of R body ≡ None
+    → (used_of R ≤ b.index) × (b.index < reserved_of R)
+
+-- what a Batch that fails no rule says of its entries: there is one, and it is no statement of the log
+abbrev pub EntryIsNew : Type 0
+EntryIsNew = (R : Log) (h : Header) (body : List ℕ) (b : BatchParts) → header_of R ≡ Some h → record_of body ≡ Some (batch_record b) → failing_of R body ≡ None
+    → (leaf : List ℕ) × (e : Entry) × (b.entries ≡ leaf ∷ []) × (entry_of leaf ≡ Some e) × (judge h (entries_of R) e.statement e.at ≡ Admit e.rule)
+    × (length (entries_of R) + 1 ≤ h.max_entries)
+
+-- no two entries of a well made log have the same id
+abbrev pub NoIdTwice : Type 0
+NoIdTwice = (R : Log) (i j : ℕ) (a b : Entry) → WellMade R → slice_get (entries_of R) i ≡ Some a → slice_get (entries_of R) j ≡ Some b
+    → id_of a.statement ≡ id_of b.statement → i ≡ j
+
+-- a well made log has as many entries as byte strings of entries
+abbrev pub EntriesAreLeaves : Type 0
+EntriesAreLeaves = (R : Log) → WellMade R → length (entries_of R) ≡ length (leaves_of R)
+
+-- a well made log has few records: a Header, a Reserve for each step of the reservation, and a Batch for each entry
+abbrev pub FewRecords : Type 0
+FewRecords = (R : Log) (h : Header) → WellMade R → header_of R ≡ Some h → length R ≤ 1 + (reserved_of R + length (entries_of R))
+
+-- and its entries and its reservation are bounded by the header
+abbrev pub IsBounded : Type 0
+IsBounded = (R : Log) (h : Header) → WellMade R → header_of R ≡ Some h → (length (entries_of R) ≤ h.max_entries) × (reserved_of R ≤ capacity h.levels) × (logged_bytes (entries_of R) ≤ most_logged_bytes)

@@ -1,0 +1,13 @@
+pub mod Lists
+pub mod Records
+pub mod Seen
+pub mod Judging
+pub mod WellMade
+pub mod Kept
+pub mod KeptRows
+pub mod StateSeen
+pub mod Ready
+pub mod Steps
+pub mod Laws
+pub mod Spelling
+pub mod Growth

@@ -1,0 +1,31 @@
+// Laws of what is written into a log, and of what a log holds as it grows.
+
+ghost use Rattle.log_replay.specs.Growth.{AdmissibleFits, ReserveFits, HeaderFits, ReserveRises, IndexRises, EntryIsNew, HeaderStays, HeaderIsFirst, EntriesAreLeaves, FewRecords, IsBounded, NoIdTwice};
+
+/// A law: what the service writes fails no rule. A Batch of an admissible entry, the next reservation, and a header within the
+/// limits as the first record.
+pub fn fitting_laws()
+    ensures batch { AdmissibleFits }
+    ensures reserve { ReserveFits }
+    ensures header { HeaderFits }
+{}
+
+/// A law: what a record that fails no rule says. A reservation rises as it may; an index is reserved, and above those used; a
+/// Batch has one entry, which the judgement admits by its rule, so it is no statement of the log.
+pub fn record_laws()
+    ensures reserve { ReserveRises }
+    ensures index { IndexRises }
+    ensures entry { EntryIsNew }
+{}
+
+/// A law: a header stays, and a well made log that has a record has one that holds. A well made log has an entry for each byte string
+/// of its Batches, as many records as its reservation and its entries allow, keeps its bounds, and has no two entries with one
+/// statement id.
+pub fn growth_laws()
+    ensures header { HeaderStays }
+    ensures first { HeaderIsFirst }
+    ensures leaves { EntriesAreLeaves }
+    ensures few { FewRecords }
+    ensures bounds { IsBounded }
+    ensures ids { NoIdTwice }
+{}

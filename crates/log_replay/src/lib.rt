@@ -1,0 +1,26 @@
+//! The log as a list of records: what it says, what a statement is judged to be, and when a list is well made.
+#![tactic(auto)]
+
+mod checked;
+mod growth;
+mod judging;
+mod keys;
+mod laws;
+mod parts;
+mod reading;
+mod rules;
+mod signing;
+mod state;
+mod stepping;
+mod tables;
+mod words;
+mod writing;
+
+pub use checked::{Checked, check};
+pub use growth::{fitting_laws, growth_laws, record_laws};
+pub use laws::{log_laws, state_laws};
+pub use parts::{BatchParts, EntryParts, Header};
+pub use reading::{entry_parts, read_batch};
+pub use state::State;
+pub use words::{Failing, Judgement, StepStop, Why};
+pub use writing::{batch_body, entry_bytes, header_body, reserve_body, shape_laws};
