@@ -7,7 +7,7 @@ top=$(cd "$(dirname "$0")/.." && pwd -P)
 folder=$(mktemp -d)
 trap 'rm -rf "$folder"' EXIT
 "$top/run" scitt root "$0" >/dev/null || true
-exec python3 - "$top/crates/scitt/out/scitt" "$folder" "$@" <<'PYTHON'
+python3 - "$top/crates/scitt/out/scitt" "$folder" "$@" <<'PYTHON'
 import os, random, subprocess, sys
 
 program, folder, only = sys.argv[1], sys.argv[2], sys.argv[3:]
@@ -20,7 +20,6 @@ def head(major, n):
             return bytes([first | (n if info is None else info)]) + (b"" if info is None else n.to_bytes(size, "big"))
     return bytes([first | 27]) + n.to_bytes(8, "big")
 
-def wide(n): return b"\x1b" + n.to_bytes(8, "big")
 def uint(n): return head(0, n)
 def string(b): return head(2, len(b)) + b
 def text(b): return head(3, len(b)) + b
@@ -81,9 +80,6 @@ def protected(more=()):
 
 def labels(count, size, end): return [text(b"a" * (size - 5) + b"%05d" % (2 * i + end)) for i in range(count)]
 
-shapes = {}
-def shape(name, wide_bytes, strict_bytes=None): shapes[name] = (wide_bytes, strict_bytes if strict_bytes is not None else wide_bytes)
-
 def make():
     for order in ("rising", "falling", "shuffled"):
         yield f"260 maps of 4,096 small numbers, {order}", lambda o=order: of_maps([uint(n) for n in range(4096)], 260, o)
@@ -108,7 +104,7 @@ def make():
             yield f"13 maps in each other behind {small} small keys, numbers, {at}", lambda d=deep, r=rising: (d(), r())
     for levels in (4, 8, 12, 13):
         yield f"{levels} levels of two keys that differ in their last byte, numbers", lambda l=levels: (doubled(l, array([b"\x01"] * max(1, min(4096, 4_100_000 // (2 << l) - 4)))),) * 2
-    for levels, width in ((6, 8), (5, 8), (4, 16), (3, 24), (3, 32), (2, 64), (1, 256)):
+    for levels, width in ((5, 8), (4, 16), (3, 24), (3, 32), (2, 64), (1, 256)):
         leaf = max(1, min(4096, 4_100_000 // width ** (levels + 1) - 3))
         yield f"{levels} levels of {width} keys that differ in their last byte, numbers", lambda l=levels, w=width, n=leaf: (many(l, w, n),) * 2
     yield "1,000 arrays of 4,096 numbers", lambda: (array([array([b"\x01"] * 4096)] * 1000),) * 2
