@@ -145,6 +145,21 @@ impl State {
         }
     }
 
+    /// Keeps a Reserve more, where the list with it is well made. It takes no memory.
+    pub fn accept_reserve(&mut self, upto: u64)
+        requires { (R : Log) → StandsFor self.old R → Fits R (reserve_record upto) }
+        ensures kept { kept_of self.new ≡ with_reserve (kept_of self.old) upto }
+        ensures log { (R : Log) (body : List ℕ) → StandsFor self.old R → record_in body ≡ Some (reserve_record upto) → StandsFor self.new (R ++ body ∷ []) }
+        ensures room { (c : Checked) → HasRoom self.old c → HasRoom self.new c }
+    {
+        state_laws();
+        log_laws();
+        match self.reserve_fails(upto) {
+            None => self.add_reserve(upto),
+            Some(_) => unreachable!(),
+        }
+    }
+
     /// Makes room for an entry of this statement, so that it may be accepted without memory. Without memory the state stands for the
     /// same logs.
     pub fn make_room(&mut self, checked: &Checked) -> Result<(), AllocError>
