@@ -96,11 +96,3 @@ pub const LOGS: &[[&str; 6]] = &[
     ["Index", "header", "reserve4", "genesis_at_1", "", ""],
     ["Signature", "header", "reserve4", "genesis", "changed", ""],
 ];
-
-// The roots of no entry, the first one, the first two and all three of the log of three entries.
-pub const ROOTS: &[&str] = &[
-    "e3b0c44298fc1c149afbf4c8996fb92427ae41e4649b934ca495991b7852b855",
-    "d7a0323cd67e00d1d2ad060ce6cd295a225e7c26a6a501ad717d8e1c5d134522",
-    "33e25868dcc8c45ef2ac3020636f640dc117786ea0f78cfbc6d7cc6edbb09a75",
-    "dcbe9be52a6cdbb7beafbb6e2746ba9fb501c63f354a1353a886be78404ba3e8",
-];
