@@ -6,7 +6,7 @@ use Rattle.cbor_core.specs.Limits.{most_containers}
 use Rattle.cbor_core.specs.Spells.{Spells}
 use Rattle.cbor_core.specs.Decoding.{strict_item}
 use Rattle.cbor_core.specs.Fitting.{is_strict_item, strict_len}
-use Rattle.log_replay.specs.Receipts.{strict_text}
+use Rattle.cbor_core.specs.Exact.{strict_text}
 use Rattle.log_replay.specs.Records.{Record, record_item, entry_item, record_of, parts_of, most_body}
 
 -- the body of a record
