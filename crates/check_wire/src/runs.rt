@@ -86,12 +86,13 @@ impl Source for Cut<'_> {
             self.bytes.len()
         };
         let count = end.saturating_sub(self.at).min(self.most).min(buf.len());
+        let at = self.at;
         for i in 0..count {
-            if let Some(byte) = self.bytes.get(self.at) {
+            if let Some(byte) = self.bytes.get(at.saturating_add(i)) {
                 buf[i] = *byte;
-                self.at = self.at.saturating_add(1);
             }
         }
+        self.at = at.saturating_add(count);
         Ok(count)
     }
 }
