@@ -1,6 +1,5 @@
 use super::message_vectors::{ATTACHED, KEY_SETS};
 use cose_sign1::{Label, Sign1Stop, attach, key_set};
-use statement::parse;
 use std::alloc::Global;
 use std::test::Fail;
 
@@ -75,28 +74,6 @@ fn a_message_has_at_most_4096_receipts(rt: HostRuntime) -> Result<(), Fail> {
     assert_eq!(rt; text.as_str(), wanted.as_str());
     let text = attached(alloc, all.as_slice(), [].as_slice())?;
     assert_eq!(rt; text.as_str(), "BadHeader 394");
-    Ok(())
-}
-
-/// Attaching changes neither what is logged nor the id.
-#[test]
-fn an_attached_statement_has_the_same_id(rt: HostRuntime) -> Result<(), Fail> {
-    let alloc = rt.alloc();
-    let bytes = hex::decode(
-        alloc,
-        "d28454a301382d0441010fa2016461636d650263706b67a04268694100",
-    )?;
-    let before = parse(alloc, bytes.as_slice()).ok().ok_or("no statement")?;
-    let receipt = [0xaa, 0xbb];
-    let attached = attach(alloc, bytes.as_slice(), receipt.as_slice())
-        .ok()
-        .ok_or("not attached")?;
-    let after = parse(alloc, attached.as_slice())
-        .ok()
-        .ok_or("no statement")?;
-    assert_eq!(rt; after.id.as_slice(), before.id.as_slice());
-    assert_eq!(rt; after.logged.as_slice(), before.logged.as_slice());
-    assert_eq!(rt; after.receipts.len(), 1);
     Ok(())
 }
 

@@ -1,0 +1,155 @@
+"""Records of logs, and the first rule that the last record of each log breaks, from the rules of docs/profile/log.md.
+
+It prints tables for tests. It has its own CBOR, LMS (RFC 8554, codes 5 and 4) and Merkle tree over hashlib, and shares nothing with
+the crates.
+"""
+import hashlib, struct
+H=lambda b: hashlib.sha256(b).digest()
+def u8(n): return struct.pack('>B',n)
+def u16(n): return struct.pack('>H',n)
+def u32(n): return struct.pack('>I',n)
+# LM-OTS W8 (code 4): n=32 w=8 p=34 ls=0 ; LMS M32 H5 (code 5)
+P=34
+def digits(q):
+    s=sum(255-b for b in q)
+    return list(q+u16(s))
+class Key:
+    def __init__(self,seed,I):
+        self.I=I; self.seed=seed; self.h=5
+        self.leaves=[]
+        for q in range(32):
+            ends=[]
+            for i in range(P):
+                t=self.x(q,i)
+                for j in range(255): t=H(I+u32(q)+u16(i)+u8(j)+t)
+                ends.append(t)
+            K=H(I+u32(q)+u16(0x8080)+b''.join(ends))
+            self.leaves.append(K)
+        self.T={}
+        for q in range(32): self.T[32+q]=H(I+u32(32+q)+u16(0x8282)+self.leaves[q])
+        for r in range(31,0,-1): self.T[r]=H(I+u32(r)+u16(0x8383)+self.T[2*r]+self.T[2*r+1])
+        self.pub=u32(1)+u32(5)+u32(4)+I+self.T[1]
+    def x(self,q,i): return H(self.I+u32(q)+u16(i)+u8(0xff)+self.seed)
+    def sign(self,q,msg):
+        C=H(b'c'+self.seed+u32(q))
+        Q=H(self.I+u32(q)+u16(0x8181)+C+msg)
+        y=b''
+        for i,a in enumerate(digits(Q)):
+            t=self.x(q,i)
+            for j in range(a): t=H(self.I+u32(q)+u16(i)+u8(j)+t)
+            y+=t
+        path=b''; r=32+q
+        while r>1: path+=self.T[r^1]; r//=2
+        return u32(0)+u32(q)+u32(4)+C+y+u32(5)+path
+def head(m,n):
+    m<<=5
+    if n<24: return bytes([m|n])
+    for i,(lim,l) in enumerate(((1<<8,1),(1<<16,2),(1<<32,4),(1<<64,8))):
+        if n<lim: return bytes([m|24+i])+n.to_bytes(l,'big')
+def enc(v):
+    if isinstance(v,bool): raise 0
+    if isinstance(v,int): return head(0,v) if v>=0 else head(1,-1-v)
+    if isinstance(v,bytes): return head(2,len(v))+v
+    if isinstance(v,str): return head(3,len(v.encode()))+v.encode()
+    if isinstance(v,list): return head(4,len(v))+b''.join(map(enc,v))
+    if isinstance(v,dict):
+        ks=sorted((enc(k),enc(x)) for k,x in v.items())
+        return head(5,len(v))+b''.join(a+b for a,b in ks)
+def tag(n,b): return head(6,n)+b
+def tbs(prot,payload): return enc(["Signature1",prot,b'',payload])
+def mth(L):
+    if not L: return H(b'')
+    if len(L)==1: return H(b'\0'+L[0])
+    k=1
+    while 2*k<len(L): k*=2
+    return H(b'\1'+mth(L[:k])+mth(L[k:]))
+service=Key(bytes(range(32)),bytes(range(16)))
+gov=Key(bytes(range(32,64)),bytes(range(16,32)))
+issuer=Key(bytes(range(64,96)),bytes(range(32,48)))
+def statement(key,q,iss,kid,sub,payload,ctype=None,bad=False,alg=-46):
+    p={1:alg,4:kid,15:{1:iss,2:sub}}
+    if ctype: p[3]=ctype
+    prot=enc(p)
+    sig=key.sign(q,tbs(prot,payload))
+    if bad: sig=sig[:-1]+bytes([sig[-1]^1])
+    return tag(18,enc([prot,{},payload,sig]))
+def header(maxe=4,block=4,key=service.pub,levels=[[5,4]]):
+    return enc([0,1,"log",["gov",b"g",gov.pub],key,levels,maxe,block])
+def reserve(n): return enc([1,n])
+def entry(at,rule,logged): return enc([1,at,rule,logged])
+def text(size,root): return tbs(enc({1:-46,4:H(service.pub),15:{1:"log"},395:1,-70001:size}),root)
+def batch(leaves,index,q=None,sig=None):
+    if sig is None: sig=service.sign(index if q is None else q,text(len(leaves),mth(leaves)))
+    return enc([2,[leaves[-1]],index,sig])
+PT="application/vnd.scitt-policy+cbor"
+def policy(v,issuers): return enc([1,v,[["gov",b"g",gov.pub]],issuers,[[100,1,[3,"acme"]],[101,1,[0]]]])
+I=[["acme",b"a",issuer.pub],["bolt",b"b",issuer.pub]]
+g=statement(gov,0,"gov",b"g","policy",policy(1,I),PT)
+g2=statement(gov,1,"gov",b"g","policy",policy(2,I[1:]),PT)
+a=statement(issuer,0,"acme",b"a","pkg",b"one")
+b=statement(issuer,1,"bolt",b"b","pkg",b"two")
+abad=statement(issuer,2,"acme",b"a","pkg",b"three",bad=True)
+c=statement(issuer,3,"acme",b"a","pkg",b"four")
+eg=entry(1000,1,g); ea=entry(1001,100,a); eb=entry(1001,101,b)
+bs=[]
+R={}
+R['header']=header(); R['one']=header(maxe=1); R['none']=header(maxe=0); R['wide']=header(block=65)
+R['tall']=header(levels=[[6,4]]); R['unlike']=header(key=u32(2)+service.pub[4:])
+for n in (1,4,5,33): R['reserve%d'%n]=reserve(n)
+R['genesis']=batch([eg],0)
+R['acme']=batch([eg,ea],1)
+R['bolt']=batch([eg,ea,entry(1001,101,b)],2)
+J=b'\0'
+R['policy2']=batch([eg,entry(1001,1,g2)],1)
+R['late']=batch([eg,entry(999,100,a)],1,sig=J)
+R['rule']=batch([eg,entry(1001,101,a)],1,sig=J)
+R['again']=batch([eg,entry(1001,1,g)],1,sig=J)
+R['forged']=batch([eg,entry(1001,100,abad)],1,sig=J)
+R['gone']=batch([eg,eg,entry(1001,100,c)],2,sig=J)
+R['unsigned']=batch([eg,ea],1,sig=J)
+R['genesis_at_1']=enc([2,[eg],1,service.sign(0,text(1,mth([eg])))])
+R['noentry']=enc([2,[enc([1,1000,1])],0,J])
+R['nostatement']=enc([2,[enc([1,1000,1,b'\0'])],0,J])
+R['two']=enc([2,[eg,ea],0,J])
+R['empty']=enc([2,[],0,J])
+R['kind']=enc([3,1])
+R['trailing']=reserve(4)+b'\0'
+R['long']=b'\x82\x01\x18\x04'
+R['changed']=R['acme'][:-1]+bytes([R['acme'][-1]^1])
+rows=[
+ ('header',''),('header reserve4',''),('header reserve1 genesis',''),('header reserve4 genesis acme bolt',''),('header reserve4 genesis policy2',''),('one reserve4 genesis',''),
+ ('kind','Form'),('header trailing','Form'),('header long','Form'),('two','Form'),('header reserve4 two','Form'),('header empty','Form'),
+ ('reserve4','Order'),('genesis','Order'),('header header','Order'),('header reserve4 one','Order'),
+ ('none','Header'),('wide','Header'),('tall','Header'),('unlike','Header'),
+ ('header reserve5','Reserve'),('header reserve4 reserve4','Reserve'),('header reserve4 reserve1','Reserve'),('header reserve33','Reserve'),
+ ('header reserve4 noentry','EntryForm'),('header reserve4 nostatement','EntryForm'),
+ ('header reserve4 genesis late','Moment'),
+ ('header reserve4 genesis rule','Verdict 101 100'),('header reserve4 genesis again','Verdict 1 0'),('header reserve4 genesis forged','Verdict 100 5'),
+ ('header reserve4 acme','Verdict 100 4'),('header reserve4 genesis policy2 gone','Verdict 100 4'),
+ ('one reserve4 genesis unsigned','Full'),
+ ('header genesis','Index'),('header reserve1 genesis acme','Index'),('header reserve4 genesis unsigned','Index'),('header reserve4 genesis_at_1','Index'),
+ ('header reserve4 genesis changed','Signature'),
+]
+names=[]
+for l,_ in rows:
+    for n in l.split():
+        n=n.rstrip('!')
+        if n not in names: names.append(n)
+print('// Records of logs in hexadecimal, each behind its name. A program of its own in Python made them, with its own CBOR, LMS and Merkle')
+print("// tree over hashlib: three keys of one level (LMS code 5, LM-OTS code 4), a service's, a governor's and an issuer's under two names.\n")
+print('pub const RECORDS: &[&str] = &[')
+for n in names: print('    "%s|%s",'%(n,R[n].hex()))
+print('];\n')
+def table(name,rs,doc):
+    print(doc)
+    print('pub const %s: &[[&str; 6]] = &['%name)
+    for l,w in rs:
+        x=[w]+[n.rstrip('!') for n in l.split()]
+        x+=['']*(6-len(x))
+        print('    [%s],'%', '.join('"%s"'%t for t in x))
+    print('];\n')
+table('LOGS',[r for r in rows if '!' not in r[0]],'// What the last record of a log fails, with the recorded and the judged rule where these differ, and nothing where the log is well\n// made; then the names of its records.')
+print('// The roots of no entry, the first one, the first two and all three of the log of three entries.')
+print('pub const ROOTS: &[&str] = &[')
+for k in range(4): print('    "%s",'%mth([eg,ea,eb][:k]).hex())
+print('];')
