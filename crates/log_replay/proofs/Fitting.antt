@@ -151,7 +151,7 @@ unfolding failing_after
 reserve_rises R h body upto headed reads none =
     was_true _ (all_false ((not (reserve_holds h (reserved_of R) upto), fails_by why.Reserve) ∷ []) (later_none R h body (reserve_record upto) headed reads none).1).0
 
-index_says : (reserved used index : ℕ) (o : Option ℕ) → index_holds reserved used index o ≡ true → (used ≤ index) × (index < reserved)
+pub index_says : (reserved used index : ℕ) (o : Option ℕ) → index_holds reserved used index o ≡ true → (used ≤ index) × (index < reserved)
 index_says reserved used index None e = cc
 index_says reserved used index (Some i) e =
     let a = and_parts _ _ e in

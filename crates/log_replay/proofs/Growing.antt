@@ -28,16 +28,16 @@ use Rattle.log_replay.specs.Growth.{HeaderStays, HeaderIsFirst, NoIdTwice, Entri
 use Rattle.log_replay.proofs.Fitting.{was_true, all_false, first_none, reserve_rises, entry_is_new, later_none, or_first, or_second, entry_there, one_of}
 
 -- what holds of no records, and with each record that fails no rule, holds of each well made log
-grow : (Q : Log → Type 0) → ((P : Log) (body : List ℕ) → Q P → failing_of P body ≡ None → Q (P ++ body ∷ [])) → (P R : Log) → Q P → WellMadeAfter P R → Q (P ++ R)
+pub grow : (Q : Log → Type 0) → ((P : Log) (body : List ℕ) → Q P → failing_of P body ≡ None → Q (P ++ body ∷ [])) → (P R : Log) → Q P → WellMadeAfter P R → Q (P ++ R)
 grow Q step P [] q w = subst Q (sym (append-nil P)) q
 grow Q step P (b ∷ R) q w = subst Q (append_assoc P (b ∷ []) R) (grow Q step (P ++ b ∷ []) R (step P b q w.0) w.1)
 
 -- ---- what a log says with one record more
 
-records-more : (R : Log) (body : List ℕ) (r : Record) → record_of body ≡ Some r → records_of (R ++ body ∷ []) ≡ records_of R ++ r ∷ []
+pub records-more : (R : Log) (body : List ℕ) (r : Record) → record_of body ≡ Some r → records_of (R ++ body ∷ []) ≡ records_of R ++ r ∷ []
 records-more R body r e = filter_map-append record_of R (body ∷ []) ∙ ap (λ o. records_of R ++ cons_option o []) e
 
-leaves-more : (R : Log) (body : List ℕ) (r : Record) → record_of body ≡ Some r → leaves_of (R ++ body ∷ []) ≡ leaves_of R ++ entries_in r
+pub leaves-more : (R : Log) (body : List ℕ) (r : Record) → record_of body ≡ Some r → leaves_of (R ++ body ∷ []) ≡ leaves_of R ++ entries_in r
 leaves-more R body r e =
     ap (flat_map entries_in) (records-more R body r e) ∙ flat_map-append entries_in (records_of R) (r ∷ [])
     ∙ ap (λ xs. leaves_of R ++ xs) (append-nil (entries_in r))
@@ -45,10 +45,10 @@ leaves-more R body r e =
 reserved-more : (R : Log) (body : List ℕ) (r : Record) → record_of body ≡ Some r → reserved_of (R ++ body ∷ []) ≡ reserved_after (reserved_of R) r
 reserved-more R body r e = ap (fold reserved_after 0) (records-more R body r e) ∙ fold-append reserved_after 0 (records_of R) (r ∷ [])
 
-entries-kept : (R : Log) (body : List ℕ) (r : Record) → record_of body ≡ Some r → entries_in r ≡ [] → entries_of (R ++ body ∷ []) ≡ entries_of R
+pub entries-kept : (R : Log) (body : List ℕ) (r : Record) → record_of body ≡ Some r → entries_in r ≡ [] → entries_of (R ++ body ∷ []) ≡ entries_of R
 entries-kept R body r e none = ap (filter_map entry_of) (leaves-more R body r e ∙ ap (λ xs. leaves_of R ++ xs) none ∙ append-nil (leaves_of R))
 
-entries-added : (R : Log) (body leaf : List ℕ) (b : BatchParts) (e : Entry) → record_of body ≡ Some (batch_record b) → b.entries ≡ leaf ∷ [] → entry_of leaf ≡ Some e → entries_of (R ++ body ∷ []) ≡ entries_of R ++ e ∷ []
+pub entries-added : (R : Log) (body leaf : List ℕ) (b : BatchParts) (e : Entry) → record_of body ≡ Some (batch_record b) → b.entries ≡ leaf ∷ [] → entry_of leaf ≡ Some e → entries_of (R ++ body ∷ []) ≡ entries_of R ++ e ∷ []
 entries-added R body leaf b e reads one is =
     ap (filter_map entry_of) (leaves-more R body (batch_record b) reads ∙ ap (λ xs. leaves_of R ++ xs) one)
     ∙ filter_map-append entry_of (leaves_of R) (leaf ∷ []) ∙ ap (λ o. entries_of R ++ cons_option o []) is
@@ -65,33 +65,33 @@ header_stays R S h e = ap header_first (filter_map-append record_of R S) ∙ fir
 -- ---- the three ways in which a log grows
 
 -- the log, what it has, and the record
-record Begins (P : Log) (body : List ℕ) : Type 0 where
-  head : Header
-  empty : header_of P ≡ None
-  reads : record_of body ≡ Some (header_record head)
-  holds : header_holds head ≡ true
+pub record Begins (P : Log) (body : List ℕ) : Type 0 where
+  pub head : Header
+  pub empty : header_of P ≡ None
+  pub reads : record_of body ≡ Some (header_record head)
+  pub holds : header_holds head ≡ true
 
-record Reserves (P : Log) (body : List ℕ) : Type 0 where
-  head : Header
-  upto : ℕ
-  headed : header_of P ≡ Some head
-  reads : record_of body ≡ Some (reserve_record upto)
-  holds : reserve_holds head (reserved_of P) upto ≡ true
+pub record Reserves (P : Log) (body : List ℕ) : Type 0 where
+  pub head : Header
+  pub upto : ℕ
+  pub headed : header_of P ≡ Some head
+  pub reads : record_of body ≡ Some (reserve_record upto)
+  pub holds : reserve_holds head (reserved_of P) upto ≡ true
 
-record Adds (P : Log) (body : List ℕ) : Type 0 where
-  head : Header
-  batch : BatchParts
-  leaf : List ℕ
-  entry : Entry
-  headed : header_of P ≡ Some head
-  reads : record_of body ≡ Some (batch_record batch)
-  one : batch.entries ≡ leaf ∷ []
-  is : entry_of leaf ≡ Some entry
-  judged : judge head (entries_of P) entry.statement entry.at ≡ Admit entry.rule
-  room : length (entries_of P) + 1 ≤ head.max_entries
-  bytes : logged_bytes (entries_of P) + length entry.statement.logged ≤ most_logged_bytes
+pub record Adds (P : Log) (body : List ℕ) : Type 0 where
+  pub head : Header
+  pub batch : BatchParts
+  pub leaf : List ℕ
+  pub entry : Entry
+  pub headed : header_of P ≡ Some head
+  pub reads : record_of body ≡ Some (batch_record batch)
+  pub one : batch.entries ≡ leaf ∷ []
+  pub is : entry_of leaf ≡ Some entry
+  pub judged : judge head (entries_of P) entry.statement entry.at ≡ Admit entry.rule
+  pub room : length (entries_of P) + 1 ≤ head.max_entries
+  pub bytes : logged_bytes (entries_of P) + length entry.statement.logged ≤ most_logged_bytes
 
-abbrev Grows : Log → List ℕ → Type 0
+abbrev pub Grows : Log → List ℕ → Type 0
 Grows P body = Begins P body ⊎ (Reserves P body ⊎ Adds P body)
 
 -- the bytes of an entry that fails no rule
@@ -137,19 +137,19 @@ grows_by P body (Some h) (Some (batch_record b)) head reads none e =
       bytes = fits_bytes P h body b new.0 new.1 head reads none new.2 new.3;
     }))
 
-grows : (P : Log) (body : List ℕ) → failing_of P body ≡ None → Grows P body
+pub grows : (P : Log) (body : List ℕ) → failing_of P body ≡ None → Grows P body
 grows P body none = grows_by P body (header_of P) (record_of body) refl refl none none
 
 -- ---- what holds of each well made log
 
-record Standing (R : Log) : Type 0 where
-  empty : header_of R ≡ None → R ≡ []
-  holds : (h : Header) → header_of R ≡ Some h → header_holds h ≡ true
-  leaves : length (entries_of R) ≡ length (leaves_of R)
-  few : length R ≤ 1 + (reserved_of R + length (entries_of R))
-  entries : (h : Header) → header_of R ≡ Some h → length (entries_of R) ≤ h.max_entries
-  reserved : (h : Header) → header_of R ≡ Some h → reserved_of R ≤ capacity h.levels
-  bytes : logged_bytes (entries_of R) ≤ most_logged_bytes
+pub record Standing (R : Log) : Type 0 where
+  pub empty : header_of R ≡ None → R ≡ []
+  pub holds : (h : Header) → header_of R ≡ Some h → header_holds h ≡ true
+  pub leaves : length (entries_of R) ≡ length (leaves_of R)
+  pub few : length R ≤ 1 + (reserved_of R + length (entries_of R))
+  pub entries : (h : Header) → header_of R ≡ Some h → length (entries_of R) ≤ h.max_entries
+  pub reserved : (h : Header) → header_of R ≡ Some h → reserved_of R ≤ capacity h.levels
+  pub bytes : logged_bytes (entries_of R) ≤ most_logged_bytes
 
 nothing : Standing []
 nothing = record {
@@ -245,7 +245,7 @@ added P body was b =
 stands_more : (P : Log) (body : List ℕ) → Standing P → failing_of P body ≡ None → Standing (P ++ body ∷ [])
 stands_more P body was none = elim (grows P body none) [ inl b ↦ begun P body was b | inr other ↦ elim other [ inl r ↦ reserved P body was r | inr a ↦ added P body was a ] ]
 
-stands : (R : Log) → WellMade R → Standing R
+pub stands : (R : Log) → WellMade R → Standing R
 stands R w = grow Standing stands_more [] R nothing w
 
 pub entries_are_leaves : EntriesAreLeaves
@@ -257,7 +257,7 @@ few_records R h w head = (stands R w).few
 pub is_bounded : IsBounded
 is_bounded R h w head = let s = stands R w in (s.entries h head, s.reserved h head, s.bytes)
 
-has_header : (R : Log) → Standing R → (k : Option Header) → header_of R ≡ k → (R ≡ [] → ⊥) → (h : Header) × (k ≡ Some h) × (header_holds h ≡ true)
+pub has_header : (R : Log) → Standing R → (k : Option Header) → header_of R ≡ k → (R ≡ [] → ⊥) → (h : Header) × (k ≡ Some h) × (header_holds h ≡ true)
 has_header R s None e some = absurd (some (s.empty e))
 has_header R s (Some h) e some = (h, refl, s.holds h e)
 

@@ -1,7 +1,10 @@
 pub mod Accepting
+pub mod AcceptingBatch
 pub mod Adding
 pub mod Batching
 pub mod Documents
+pub mod EntryText
+pub mod LoggedAgain
 pub mod Lookups
 pub mod Making
 pub mod More
@@ -14,6 +17,8 @@ pub mod Rows
 pub mod Telling
 pub mod Shapes
 pub mod ReadsAgain
-pub mod Limits
 pub mod Fitting
 pub mod Growing
+pub mod Limits
+pub mod Homes
+pub mod Answering

@@ -1,12 +1,12 @@
 -- What holds of all logs.
 use Rattle.std.specs.Prelude.{◌≡◌, ◌↔◌, ℕ, ◌+◌, ◌<◌, ◌≤◌, true, List, [], ◌∷◌, ◌++◌, length, min, Option, Some, None, slice_get}
-use Rattle.hss_keys.specs.Levels.{capacity}
-use Rattle.hss_keys.specs.Functions.{hss_verifies, flat_index}
+use Rattle.hss_keys.specs.Levels.{capacity, IsLevels}
+use Rattle.hss_keys.specs.Functions.{hss_verifies, flat_index, names_levels}
 use Rattle.statement.specs.Said.{Said, id_of}
 use Rattle.log_replay.specs.declared.parts.Header.{Header}
 use Rattle.log_replay.specs.declared.parts.BatchParts.{BatchParts}
 use Rattle.log_replay.specs.declared.words.Judgement.TheVariants.{Admit}
-use Rattle.log_replay.specs.Records.{Log, Entry, header_record, reserve_record, batch_record, record_of, header_of, leaves_of, entries_of, entry_of, reserved_of, used_of, logged_bytes}
+use Rattle.log_replay.specs.Records.{Log, Entry, header_record, reserve_record, batch_record, record_of, batch_in, header_of, leaves_of, entries_of, entry_of, parts_of, homes_of, batches_of, reserved_of, used_of, logged_bytes}
 use Rattle.log_replay.specs.Judging.{judge, moment_after}
 use Rattle.log_replay.specs.WellMade.{WellMade, failing_of, header_holds, reserve_holds, text_signed, most_logged_bytes}
 
@@ -78,3 +78,49 @@ FewRecords = (R : Log) (h : Header) → WellMade R → header_of R ≡ Some h �
 -- and its entries and its reservation are bounded by the header
 abbrev pub IsBounded : Type 0
 IsBounded = (R : Log) (h : Header) → WellMade R → header_of R ≡ Some h → (length (entries_of R) ≤ h.max_entries) × (reserved_of R ≤ capacity h.levels) × (logged_bytes (entries_of R) ≤ most_logged_bytes)
+
+-- so it has fewer records than a journal holds
+abbrev pub FewerRecords : Type 0
+FewerRecords = (R : Log) → WellMade R → length R < 2147483648
+
+-- the limits of a header, one by one
+pub record HeaderLimits (h : Header) : Type 0 where
+  pub name_some : 1 ≤ length h.name
+  pub name_most : length h.name ≤ 128
+  pub iss_some : 1 ≤ length h.governor.iss
+  pub iss_most : length h.governor.iss ≤ 1024
+  pub kid_some : 1 ≤ length h.governor.kid
+  pub kid_most : length h.governor.kid ≤ 64
+  pub levels : IsLevels h.levels
+  pub entries_some : 1 ≤ h.max_entries
+  pub entries_most : h.max_entries ≤ 65536
+  pub block_some : 1 ≤ h.block
+  pub block_most : h.block ≤ 64
+  pub named : names_levels h.levels h.key ≡ true
+
+-- the header of a well made log keeps them
+abbrev pub HeaderIsWithin : Type 0
+HeaderIsWithin = (R : Log) (h : Header) → WellMade R → header_of R ≡ Some h → HeaderLimits h
+
+-- entry i of a log, with the record that holds it: a Batch of this entry alone, whose index and signature are those that batch i has, for
+-- the size i + 1. The parts of the entry's bytes are the entry's, and its logged form is its statement's
+pub record StandsAt (R : Log) (i n : ℕ) (body leaf : List ℕ) (b : BatchParts) (e : Entry) : Type 0 where
+  pub home : slice_get (homes_of R) i ≡ Some n
+  pub there : slice_get R n ≡ Some body
+  pub reads : record_of body ≡ Some (batch_record b)
+  pub alone : b.entries ≡ leaf ∷ []
+  pub read_back : batch_in (record_of body) ≡ Some b
+  pub bytes : slice_get (leaves_of R) i ≡ Some leaf
+  pub entry : slice_get (entries_of R) i ≡ Some e
+  pub entry_reads : entry_of leaf ≡ Some e
+  pub parts : parts_of leaf ≡ Some (record { at = e.at; rule = e.rule; logged = e.statement.logged })
+  pub batch : slice_get (batches_of R) i ≡ Some (record { size = i + 1; index = b.index; signature = b.signature })
+
+-- in a well made log each entry stands so
+abbrev pub EntryHasHome : Type 0
+EntryHasHome = (R : Log) (i : ℕ) → WellMade R → i < length (entries_of R)
+    → (n : ℕ) × (body : List ℕ) × (leaf : List ℕ) × (b : BatchParts) × (e : Entry) × StandsAt R i n body leaf b e
+
+-- and there are as many Batches, and as many numbers of records that hold entries, as entries
+abbrev pub BatchesAreEntries : Type 0
+BatchesAreEntries = (R : Log) → WellMade R → (length (batches_of R) ≡ length (entries_of R)) × (length (homes_of R) ≡ length (entries_of R))

@@ -11,3 +11,4 @@ pub mod Steps
 pub mod Laws
 pub mod Spelling
 pub mod Growth
+pub mod Answers

@@ -1,8 +1,10 @@
 -- The bodies of records and the bytes of entries.
-use Rattle.std.specs.Prelude.{◌≡◌, ℕ, ◌+◌, ◌≤◌, ◌<◌, true, List, length, Option, Some}
+use Rattle.std.specs.Prelude.{◌≡◌, ℕ, ◌+◌, ◌≤◌, ◌<◌, true, List, [], ◌∷◌, ◌++◌, length, Option, Some}
 use Rattle.cbor_core.specs.declared.words.Grammar.TheVariants.{Strict}
 use Rattle.cbor_core.specs.declared.tree.Item.{Item}
 use Rattle.cbor_core.specs.Limits.{most_containers}
+use Rattle.cbor_core.specs.Head.{head}
+use Rattle.cbor_core.specs.Encoding.{size_of}
 use Rattle.cbor_core.specs.Spells.{Spells}
 use Rattle.cbor_core.specs.Decoding.{strict_item}
 use Rattle.cbor_core.specs.Fitting.{is_strict_item, strict_len}
@@ -16,6 +18,11 @@ body_of r = strict_text (record_item r)
 -- the bytes of an entry
 unfoldable pub entry_bytes : ℕ → ℕ → List ℕ → List ℕ
 entry_bytes at rule logged = strict_text (entry_item at rule logged)
+
+-- what stands in them before a logged form of so many bytes: the head of an array of four, the number 1, the moment, the rule, and the
+-- head of a byte string (RFC 8949, 3)
+abbrev pub entry_front : ℕ → ℕ → ℕ → List ℕ
+entry_front at rule len = (132 ∷ 1 ∷ []) ++ (head 0 (size_of at) at ++ (head 0 (size_of rule) rule ++ head 2 (size_of len) len))
 
 -- these bytes are the strict ones of an item, which is read from them again
 pub record IsWritten (item : Item) (text : List ℕ) : Type 0 where

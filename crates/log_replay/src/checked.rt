@@ -1,13 +1,13 @@
 // A statement with what its judgement needs.
 
-ghost use Rattle.std.specs.Prelude.{◌≡◌, ◌≤◌, IfOk, IfErr, length, option_map};
+ghost use Rattle.std.specs.Prelude.{◌≡◌, ◌≤◌, Some, IfOk, IfErr, length, option_map};
 ghost use Rattle.std.specs.Option.{ForSome};
 ghost use Rattle.cbor_core.specs.Limits.{longest_string};
 ghost use Rattle.cose_sign1.specs.OneTbs.{tbs_of};
 ghost use Rattle.cose_sign1.specs.Tbs.{tbs_len};
 ghost use Rattle.hss_keys.specs.Functions.{hss_verifies};
 ghost use Rattle.policy_rules.specs.Documents.{document_of as document_by};
-ghost use Rattle.statement.specs.Said.{said_of};
+ghost use Rattle.statement.specs.Said.{said_of, logged_statement};
 ghost use Rattle.log_replay.specs.Judging.{facts_of as facts_said, kind_of as kind_said, is_policy as is_policy_said, document_in, signed_text_of};
 
 use crate::keys::verifies;
@@ -15,7 +15,7 @@ use cbor_core::{Bytes, Text};
 use cose_sign1::{sig_structure_is_one, to_be_signed_into, to_be_signed_len};
 use hss_keys::Key60;
 use policy_rules::{ContentKind, Facts, Policy, PolicyStop, decode, documents_have_one_answer};
-use statement::{ContentType, Statement};
+use statement::{ContentType, Statement, logged_form_is_the_statement};
 use std::alloc::{AllocError, Global};
 
 /// A statement with what its judgement needs, which is made without a log.
@@ -128,6 +128,14 @@ pub(crate) fn document_of_statement(
         return document_of(alloc, statement.payload.as_slice());
     }
     Ok(None)
+}
+
+/// A law: a statement's logged form reads as that statement, and is short.
+pub(crate) fn reads_again(statement: &Statement)
+    ensures reads { logged_statement statement.now.logged ≡ Some (said_of statement.now) }
+    ensures short { length statement.now.logged ≤ 4194304 }
+{
+    logged_form_is_the_statement();
 }
 
 #[derive(Drop)]

@@ -1,6 +1,9 @@
 // Laws of what is written into a log, and of what a log holds as it grows.
 
-ghost use Rattle.log_replay.specs.Growth.{AdmissibleFits, ReserveFits, HeaderFits, ReserveRises, IndexRises, EntryIsNew, HeaderStays, HeaderIsFirst, EntriesAreLeaves, FewRecords, IsBounded, NoIdTwice};
+ghost use Rattle.log_replay.specs.Growth.{AdmissibleFits, ReserveFits, HeaderFits, ReserveRises, IndexRises, EntryIsNew, HeaderStays, HeaderIsFirst, EntriesAreLeaves, FewRecords, IsBounded, NoIdTwice, FewerRecords, HeaderIsWithin, EntryHasHome, BatchesAreEntries};
+ghost use Rattle.log_replay.specs.Answers.{EntryHasBatch, LastHasBatch};
+
+use hss_keys::levels_law;
 
 /// A law: what the service writes fails no rule. A Batch of an admissible entry, the next reservation, and a header within the
 /// limits as the first record.
@@ -28,4 +31,26 @@ pub fn growth_laws()
     ensures few { FewRecords }
     ensures bounds { IsBounded }
     ensures ids { NoIdTwice }
+{}
+
+/// A law: in a well made log the header keeps its limits, and there are fewer than 2,147,483,648 records.
+pub fn limit_laws()
+    ensures header { HeaderIsWithin }
+    ensures fewer { FewerRecords }
+{
+    levels_law();
+}
+
+/// A law: in a well made log each entry stands in a record that is a Batch of it alone, for the size up to and with it, and the parts of
+/// its bytes are the entry's. There are as many Batches as entries.
+pub fn home_laws()
+    ensures home { EntryHasHome }
+    ensures count { BatchesAreEntries }
+{}
+
+/// A law: the Batch that the receipt of entry i names is Batch i, and the last one, which a consistency receipt names, is that of the
+/// last entry.
+pub fn answer_laws()
+    ensures entry { EntryHasBatch }
+    ensures last { LastHasBatch }
 {}

@@ -110,6 +110,8 @@ impl State {
     pub fn size(&self) -> u32
         ensures entries { (R : Log) → StandsFor self.now R → result ≡ length (entries_of R) }
         ensures leaves { (R : Log) → StandsFor self.now R → result ≡ length (leaves_of R) }
+        ensures ids { result ≡ length (kept_of self.now).ids }
+        ensures homes { result ≡ length (kept_of self.now).homes }
     {
         self.tables.len()
     }

@@ -11,9 +11,10 @@ ghost use Rattle.log_replay.specs.Records.{Log, header_record, reserve_record, b
 ghost use Rattle.log_replay.specs.Kept.{Stands, first_kept, with_reserve, with_batch, StateOf};
 ghost use Rattle.log_replay.specs.KeptRows.{judge_kept, kept_entry_failing, kept_entry_rows, kept_batch_rows, failing_kept, with_record};
 ghost use Rattle.log_replay.specs.StateSeen.{kept_of, StandsFor, HasRoom};
-ghost use Rattle.log_replay.specs.Steps.{Takes, TakesOf, Steps, Fits};
+ghost use Rattle.log_replay.specs.Steps.{Takes, TakesOf, Steps, Fits, entry_text, batch_with};
 
-use crate::checked::{Checked, check, document_of_statement};
+use crate::checked::{Checked, check, document_of_statement, reads_again};
+use crate::hashing::entry_hash;
 use crate::laws::{log_laws, state_laws};
 use crate::parts::{BatchParts, Entry, Header, Heading, Record};
 use crate::reading::{read_entry, record_of};
@@ -21,6 +22,8 @@ use crate::rules::{Measures, batch_fails, entry_fails, header_from, reservation_
 use crate::state::{State, judged};
 use crate::tables::Tables;
 use crate::words::{Failing, StepStop, Why};
+use crate::writing::shape_laws;
+use cbor_core::strict_items_are_spelled;
 use merkle_tree::leaf_hash;
 use policy_rules::Policy;
 use statement::Hash;
@@ -192,6 +195,30 @@ impl State {
         if let Some(policy) = self.room.take() {
             self.policy = Some(policy);
         }
+    }
+
+    /// Keeps a Batch more, of this statement's entry alone, where the list with it is well made and room was made for the statement. It
+    /// takes no memory. Its moment is `at`, and `rule` admits it; the signature stands in the log, and not here.
+    pub fn accept_batch(
+        &mut self,
+        checked: &Checked,
+        at: u64,
+        rule: u16,
+        index: u64,
+        signature: &[u8],
+    )
+        requires room { HasRoom self.old checked.now }
+        requires fits { (R : Log) → StandsFor self.old R → Fits R (batch_with at rule (said_of checked.now.statement) index signature.now) }
+        ensures kept { kept_of self.new ≡ with_batch (kept_of self.old) index (hash_of_leaf (entry_text at rule (said_of checked.now.statement))) at (said_of checked.now.statement) }
+        ensures log { (R : Log) (body : List ℕ) → StandsFor self.old R → record_in body ≡ Some (batch_with at rule (said_of checked.now.statement) index signature.now) → StandsFor self.new (R ++ body ∷ []) }
+    {
+        state_laws();
+        log_laws();
+        shape_laws();
+        strict_items_are_spelled();
+        reads_again(&checked.statement);
+        let hash = entry_hash(at, rule, checked.statement.logged.as_slice());
+        self.add_batch(checked, at, index, hash);
     }
 
     // The entry that these bytes are, or the first rule that it fails.

@@ -21,9 +21,9 @@ HeadersFit = (h : Header) → length h.name ≤ 128 → is_utf8 h.name ≡ true 
 fits : HeadersFit → (h : Header) → is_within_limits h ≡ true → IsUtf8 h.name → IsUtf8 h.governor.iss → length h.governor.key ≡ 60 → length h.key ≡ 60 → FitsIn 2000 (record_item (header_record h))
 fits law h e name iss governor key =
     let lim = within h e in
-    let entries = lim.entries in
-    let block = lim.block in
-    law h lim.name (is_utf8-from_IsUtf8 h.name name) lim.iss (is_utf8-from_IsUtf8 h.governor.iss iss) lim.kid governor key lim.levels
+    let entries = lim.entries.1 in
+    let block = lim.block.1 in
+    law h lim.name.1 (is_utf8-from_IsUtf8 h.name name) lim.iss.1 (is_utf8-from_IsUtf8 h.governor.iss iss) lim.kid.1 governor key lim.levels.most
     (omega (arith, entries)) (omega (arith, block))
 
 pub strict-requires-clause-fits : goal.strict-requires-clause-fits
