@@ -1,5 +1,5 @@
 -- A Batch that is accepted: its entry reads, and what the rules say of the numbers.
-use Rattle.std.proofs.Common.{◌≡◌, ℕ, ◌+◌, ◌≤◌, ◌<◌, ◌^◌, List, [], ◌∷◌, ◌++◌, Bool, true, false, Option, None, Some, refl, sym, ap, ◌∙◌, subst, length, arith}
+use Rattle.std.proofs.Common.{◌≡◌, ℕ, ◌+◌, ◌≤◌, ◌<◌, ◌^◌, List, [], ◌∷◌, Option, None, Some, refl, ap, ◌∙◌, subst, length}
 use Rattle.std.specs.Prelude.{option_map, option_and_then, nat_lt}
 use Rattle.std.specs.Option.{option_or}
 use Rattle.std.proofs.lemmas.Bool.{ltb-false}
@@ -11,13 +11,12 @@ use Rattle.policy_rules.specs.declared.documents.Policy.{Policy}
 use Rattle.statement.specs.Said.{Said, logged_statement}
 use Rattle.log_replay.specs.declared.parts.Header.{Header}
 use Rattle.log_replay.specs.declared.parts.BatchParts.{BatchParts}
-use Rattle.log_replay.specs.declared.parts.EntryParts.{EntryParts}
 use Rattle.log_replay.specs.declared.words.Failing.{Failing}
 use Rattle.log_replay.specs.declared.words.Why.TheVariants as why
 use Rattle.log_replay.specs.Records.{Entry, batch_record, entry_of, entry_with, entry_in, entry_item, parts_of}
 use Rattle.log_replay.specs.Spelling.{FitsIn}
 use Rattle.log_replay.specs.Steps.{entry_text, batch_with}
-use Rattle.log_replay.specs.WellMade.{fails_by, has_shape, index_holds, most_logged_bytes}
+use Rattle.log_replay.specs.WellMade.{fails_by, most_logged_bytes}
 use Rattle.log_replay.specs.Kept.{Kept, Stands, with_batch}
 use Rattle.log_replay.specs.KeptRows.{judge_kept, kept_entry_rows, kept_entry_failing, kept_batch_rows, kept_batch_failing, failing_behind, failing_first, failing_with, failing_kept, with_record}
 use Rattle.log_replay.specs.Laws.{FailingIsFailing, OneLess}

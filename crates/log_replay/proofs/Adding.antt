@@ -1,6 +1,6 @@
 -- A record that fails no rule leads from what is kept of a log to what is kept of the log with it.
-use Rattle.std.proofs.Common.{◌≡◌, ℕ, ◌+◌, ◌≤◌, ◌<◌, max, List, [], ◌∷◌, ◌++◌, Bool, true, false, ◌==◌, not, Option, None, Some, refl, sym, ap, ◌∙◌, length, length-append, append-nil, arith, subst}
-use Rattle.std.specs.Prelude.{map, filter_map, fold, flat_map, option_map, unwrap_or}
+use Rattle.std.proofs.Common.{◌≡◌, ℕ, ◌+◌, ◌≤◌, max, List, [], ◌∷◌, ◌++◌, Bool, true, false, not, Option, None, Some, refl, sym, ap, ◌∙◌, length, length-append, append-nil, arith, subst}
+use Rattle.std.specs.Prelude.{map, filter_map, fold, flat_map, option_map}
 use Rattle.std.specs.Option.{option_or}
 use Rattle.std.specs.List.{cons_option}
 use Rattle.std.proofs.lemmas.Bool.{leb-true, eqb-true, and_parts}
@@ -16,13 +16,13 @@ use Rattle.log_replay.specs.declared.parts.Header.{Header}
 use Rattle.log_replay.specs.declared.parts.BatchParts.{BatchParts}
 use Rattle.log_replay.specs.declared.words.Failing.{Failing}
 use Rattle.log_replay.specs.declared.words.Why.TheVariants as why
-use Rattle.log_replay.specs.Records.{Log, Record, Entry, header_record, reserve_record, batch_record, record_of, records_of, header_of, header_first, leaves_of, entries_of, entry_of, reserved_of, reserved_after, used_of, used_after, entries_in, homes_of, logged_bytes}
+use Rattle.log_replay.specs.Records.{Log, Record, Entry, header_record, reserve_record, batch_record, record_of, records_of, header_of, header_first, leaves_of, entries_of, entry_of, reserved_after, used_of, used_after, entries_in, homes_of, logged_bytes}
 use Rattle.log_replay.specs.Judging.{in_force, policy_with, last_moment, facts_of, facts_before}
 use Rattle.log_replay.specs.Kept.{Kept, StateOf, first_kept, with_reserve, with_batch}
 use Rattle.log_replay.specs.KeptRows.{kept_entry_failing, kept_batch_rows, kept_batch_failing, failing_behind, failing_first, with_entry, with_entries, with_record}
 use Rattle.log_replay.specs.Laws.{RecordIsAdded}
 use Rattle.log_replay.specs.WellMade.{WellMade, failing_by, failing_of, failing_after, fails_by, has_shape, index_holds}
-use Rattle.log_replay.proofs.More.{records-more, leaves-more, reserved-more, used-more, entries-reserve, entries-batch, header_more, homes-more, in_force-more}
+use Rattle.log_replay.proofs.More.{leaves-more, reserved-more, used-more, entries-reserve, entries-batch, header_more, homes-more, in_force-more}
 use Rattle.log_replay.proofs.Prefixes.{well}
 use Rattle.log_replay.proofs.Rows.{all_false, first_none, second_none}
 use Rattle.log_replay.proofs.Refusing.{RootOfLeaves, by_record, by_first}

@@ -1,5 +1,5 @@
 -- A Batch of one entry, as it is taken.
-use Rattle.std.proofs.Common.{◌≡◌, ℕ, ◌+◌, List, [], ◌∷◌, ◌++◌, Bool, true, false, ◌==◌, not, Option, None, Some, refl, sym, ap, ◌∙◌, length, arith, subst}
+use Rattle.std.proofs.Common.{◌≡◌, ℕ, ◌+◌, List, [], ◌∷◌, ◌++◌, Bool, true, not, Option, None, Some, refl, sym, ap, ◌∙◌, length, subst}
 use Rattle.std.specs.Prelude.{option_map, unwrap_or}
 use Rattle.std.specs.Option.{is_some, option_or}
 use Rattle.std.proofs.lemmas.Bool.{ne_eqb}
@@ -13,11 +13,11 @@ use Rattle.log_replay.specs.declared.parts.BatchParts.{BatchParts}
 use Rattle.log_replay.specs.declared.words.Failing.{Failing}
 use Rattle.log_replay.specs.declared.words.Why.TheVariants as why
 use Rattle.log_replay.specs.Judging.{document_in, policy_with, facts_of}
-use Rattle.log_replay.specs.Records.{Log, Record, batch_record, Entry, entry_of, record_of}
+use Rattle.log_replay.specs.Records.{Log, batch_record, Entry, entry_of, record_of}
 use Rattle.log_replay.specs.Steps.{Takes, TakesOf}
 use Rattle.log_replay.specs.WellMade.{fails_by, failing_of, is_number_of_entries}
 use Rattle.log_replay.specs.Kept.{Kept, StateOf, kept_from, with_batch}
-use Rattle.log_replay.specs.KeptRows.{kept_entry_failing, kept_batch_rows, kept_batch_failing, failing_behind, failing_first, failing_with, failing_kept, with_record, with_entry, with_entries}
+use Rattle.log_replay.specs.KeptRows.{kept_batch_failing, failing_behind, failing_first, failing_with, with_record, with_entry, with_entries}
 use Rattle.log_replay.specs.Laws.{FailingIsFailing, RecordIsAdded}
 use Rattle.log_replay.proofs.Making.{Made, same_made}
 

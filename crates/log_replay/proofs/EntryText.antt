@@ -1,5 +1,5 @@
 -- The strict bytes of an entry: what stands before the logged form, and the logged form.
-use Rattle.std.proofs.Common.{◌≡◌, ℕ, suc, ◌+◌, ◌<◌, ◌≤◌, ◌^◌, Bool, cond, ◌&&◌, true, List, [], ◌∷◌, ◌++◌, length, take, Option, Some, None, refl, sym, ap, ◌∙◌, lt-ltb, le-leb, arith, length-append, append_assoc, append-nil}
+use Rattle.std.proofs.Common.{◌≡◌, ℕ, suc, ◌<◌, ◌≤◌, ◌^◌, Bool, cond, ◌&&◌, true, List, [], ◌∷◌, ◌++◌, length, take, Option, Some, None, refl, sym, ap, ◌∙◌, lt-ltb, le-leb, arith, length-append, append_assoc, append-nil}
 use Rattle.std.specs.Prelude.{nat_le}
 use Rattle.cbor_core.specs.declared.heads.Size.{Size}
 use Rattle.cbor_core.specs.declared.heads.Size.TheVariants.{Within, One, Two, Four, Eight}
@@ -9,7 +9,7 @@ use Rattle.cbor_core.specs.declared.tree.Node.TheVariants.{outs-Array}
 use Rattle.cbor_core.specs.Limits.{longest_string, most_parts}
 use Rattle.cbor_core.specs.Head.{head}
 use Rattle.cbor_core.specs.Tree.{Layer}
-use Rattle.cbor_core.specs.Encoding.{size_of, head_size, both, Writer, spell_each, spell_pairs, spell_layer, spell_in, text_or}
+use Rattle.cbor_core.specs.Encoding.{size_of, both, Writer, spell_each, spell_pairs, spell_layer, spell_in, text_or}
 use Rattle.cbor_core.specs.Exact.{strict_text}
 use Rattle.cbor_core.specs.Fitting.{UintText, BytesText}
 use Rattle.cbor_core.specs.Items.{uint_item, bytes_item, array_item}

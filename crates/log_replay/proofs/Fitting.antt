@@ -1,22 +1,21 @@
 -- What is written fails no rule, and what a record that fails none says.
-use Rattle.std.proofs.Common.{◌≡◌, ℕ, ◌+◌, ◌<◌, ◌≤◌, max, min, List, [], ◌∷◌, ◌++◌, Bool, true, false, ◌&&◌, ◌||◌, not, nat_lt, nat_le, ◌==◌, Option, None, Some, refl, sym, ap, ◌∙◌, subst, arith, length}
+use Rattle.std.proofs.Common.{◌≡◌, ℕ, ◌+◌, ◌<◌, ◌≤◌, min, List, [], ◌∷◌, Bool, true, false, ◌||◌, not, nat_lt, ◌==◌, Option, None, Some, refl, sym, ap, ◌∙◌, subst, arith, length}
 use Rattle.std.specs.Prelude.{option_map, unwrap_or}
 use Rattle.std.specs.Option.{option_or}
 use Rattle.std.proofs.lemmas.Bool.{and_from, and_parts, lt-ltb, le-ltb, le-leb, eq-eqb, eqb-true, ltb-true, leb-true, ltb-false}
 use Rattle.cbor_core.specs.Rows.{first_row}
 use Rattle.hss_keys.specs.Levels.{capacity}
-use Rattle.hss_keys.specs.Functions.{hss_verifies, flat_index}
+use Rattle.hss_keys.specs.Functions.{flat_index}
 use Rattle.statement.specs.Said.{Said}
 use Rattle.log_replay.specs.declared.parts.Header.{Header}
 use Rattle.log_replay.specs.declared.parts.BatchParts.{BatchParts}
 use Rattle.log_replay.specs.declared.words.Judgement.{Judgement}
 use Rattle.log_replay.specs.declared.words.Judgement.TheVariants.{Known, Admit, Deny}
-use Rattle.log_replay.specs.declared.words.Failing.{Failing}
 use Rattle.log_replay.specs.declared.words.Why.TheVariants as why
-use Rattle.log_replay.specs.Records.{Log, Record, Entry, header_record, reserve_record, batch_record, record_of, header_of, leaves_of, entries_of, entry_of, reserved_of, used_of, logged_bytes}
+use Rattle.log_replay.specs.Records.{Log, Record, Entry, reserve_record, batch_record, record_of, header_of, entries_of, entry_of, reserved_of, used_of, logged_bytes}
 use Rattle.log_replay.specs.Judging.{judge, judge_new, in_force, place_of, facts_before, moment_after, last_moment}
-use Rattle.log_replay.specs.WellMade.{fails_by, failing_after, failing_by, failing_of, entry_rows, entry_failing, entries_failing, one_more, batch_rows, batch_failing, index_holds, text_signed, admits_by, judged_rule, reserve_holds, has_shape, header_holds, most_logged_bytes}
-use Rattle.log_replay.specs.Growth.{IsAdmissible, AdmissibleFits, ReserveFits, HeaderFits, ReserveRises, IndexRises, EntryIsNew}
+use Rattle.log_replay.specs.WellMade.{fails_by, failing_after, failing_by, failing_of, entry_rows, entry_failing, entries_failing, batch_rows, batch_failing, index_holds, admits_by, reserve_holds, has_shape, header_holds, most_logged_bytes}
+use Rattle.log_replay.specs.Growth.{AdmissibleFits, ReserveFits, HeaderFits, ReserveRises, IndexRises, EntryIsNew}
 
 -- rows of which none applies
 abbrev AllFalse : {A : Type 0} → List (Bool × A) → Type 0

@@ -1,5 +1,5 @@
 -- A well made log, one record after another.
-use Rattle.std.proofs.Common.{◌≡◌, ◌↔◌, ℕ, zero, suc, ◌+◌, ◌<◌, ◌≤◌, List, [], ◌∷◌, ◌++◌, Bool, true, false, cond, ◌==◌, not, Option, None, Some, refl, sym, ap, ◌∙◌, subst, arith, length, length-append, append-nil, append_assoc, inl, inr, get_or, ◌⊎◌}
+use Rattle.std.proofs.Common.{◌≡◌, ℕ, zero, suc, ◌+◌, ◌<◌, ◌≤◌, List, [], ◌∷◌, ◌++◌, Bool, true, false, cond, not, Option, None, Some, refl, sym, ap, ◌∙◌, subst, arith, length, length-append, append-nil, append_assoc, inl, inr, get_or, ◌⊎◌}
 use Rattle.std.specs.Prelude.{option_map, unwrap_or, filter_map, flat_map, fold, position, slice_get, sum_by}
 use Rattle.std.specs.Option.{option_or}
 use Rattle.std.specs.List.{cons_option, position_from}
@@ -7,7 +7,7 @@ use Rattle.std.specs.Str.{bytes_eq}
 use Rattle.std.proofs.Math.Seq.{get_or-append_seam}
 use Rattle.std.proofs.lemmas.Bool.{and_parts, eqb-true, ltb-true, leb-true, cases_lt}
 use Rattle.std.proofs.lemmas.List.{get_or_append_left}
-use Rattle.std.proofs.lemmas.List.Sums.{fold-append, sum_by-append}
+use Rattle.std.proofs.lemmas.List.Sums.{fold-append}
 use Rattle.std.proofs.lemmas.List.Elements.{filter_map-append}
 use Rattle.std.proofs.lemmas.Grind.{flat_map-append}
 use Rattle.std.proofs.lemmas.Option.{slice_get_within, get_or_from_slice_get, slice_get-get_or}
@@ -22,10 +22,10 @@ use Rattle.log_replay.specs.declared.words.Judgement.{Judgement}
 use Rattle.log_replay.specs.declared.words.Judgement.TheVariants.{Known, Admit}
 use Rattle.log_replay.specs.declared.words.Why.TheVariants as why
 use Rattle.log_replay.specs.Records.{Log, Record, Entry, header_record, reserve_record, batch_record, record_of, records_of, header_of, header_first, leaves_of, entries_in, entries_of, entry_of, reserved_of, reserved_after, logged_bytes}
-use Rattle.log_replay.specs.Judging.{judge, judge_new, place_of, in_force, facts_before, moment_after}
-use Rattle.log_replay.specs.WellMade.{WellMade, WellMadeAfter, failing_after, failing_by, failing_of, fails_by, has_shape, header_holds, reserve_holds, entry_rows, entry_failing, entries_failing, batch_rows, batch_failing, most_logged_bytes}
+use Rattle.log_replay.specs.Judging.{judge, place_of}
+use Rattle.log_replay.specs.WellMade.{WellMade, WellMadeAfter, failing_after, failing_of, fails_by, has_shape, header_holds, reserve_holds, entry_rows, entry_failing, entries_failing, batch_rows, most_logged_bytes}
 use Rattle.log_replay.specs.Growth.{HeaderStays, HeaderIsFirst, NoIdTwice, EntriesAreLeaves, FewRecords, IsBounded}
-use Rattle.log_replay.proofs.Fitting.{was_true, all_false, first_none, reserve_rises, entry_is_new, later_none, or_first, or_second, entry_there, one_of}
+use Rattle.log_replay.proofs.Fitting.{was_true, all_false, first_none, reserve_rises, entry_is_new, later_none, or_second}
 
 -- what holds of no records, and with each record that fails no rule, holds of each well made log
 pub grow : (Q : Log → Type 0) → ((P : Log) (body : List ℕ) → Q P → failing_of P body ≡ None → Q (P ++ body ∷ [])) → (P R : Log) → Q P → WellMadeAfter P R → Q (P ++ R)

@@ -1,6 +1,6 @@
 -- Where the entries of a well made log stand.
-use Rattle.std.proofs.Common.{◌≡◌, ℕ, ◌+◌, ◌<◌, ◌≤◌, List, [], ◌∷◌, ◌++◌, Bool, true, cond, ◌==◌, Option, None, Some, refl, sym, ap, ◌∙◌, subst, arith, length, length-append, append-nil, inl, inr}
-use Rattle.std.specs.Prelude.{option_map, option_and_then, flat_map, map, slice_get}
+use Rattle.std.proofs.Common.{◌≡◌, ℕ, ◌+◌, ◌<◌, List, [], ◌∷◌, ◌++◌, Bool, cond, None, Some, refl, sym, ap, ◌∙◌, subst, arith, length, length-append, append-nil, inl, inr}
+use Rattle.std.specs.Prelude.{flat_map, map, slice_get}
 use Rattle.std.proofs.Math.Seq.{get_or-append_seam}
 use Rattle.std.proofs.lemmas.Bool.{cases_lt, eq-eqb}
 use Rattle.std.proofs.lemmas.List.{get_or_append_left}
@@ -8,10 +8,10 @@ use Rattle.std.proofs.lemmas.Option.{slice_get_within, get_or_from_slice_get, sl
 use Rattle.statement.specs.Said.{Said, logged_statement}
 use Rattle.log_replay.specs.declared.parts.BatchParts.{BatchParts}
 use Rattle.log_replay.specs.declared.parts.EntryParts.{EntryParts}
-use Rattle.log_replay.specs.Records.{Log, Record, Entry, Signed, header_record, reserve_record, batch_record, record_of, records_of, one_entry, batch_in, leaves_of, entries_in, entries_of, entry_of, entry_with, parts_of, entries_at, homes_of, signed_from, batches_of}
+use Rattle.log_replay.specs.Records.{Log, Record, Entry, Signed, header_record, reserve_record, batch_record, record_of, records_of, one_entry, batch_in, leaves_of, entries_in, entries_of, entry_of, entry_with, parts_of, homes_of, signed_from, batches_of}
 use Rattle.log_replay.specs.WellMade.{WellMade, failing_of}
 use Rattle.log_replay.specs.Growth.{StandsAt, EntryHasHome, BatchesAreEntries}
-use Rattle.log_replay.proofs.Growing.{Grows, Begins, Reserves, Adds, grow, grows, records-more, leaves-more, entries-kept, entries-added}
+use Rattle.log_replay.proofs.Growing.{Adds, grow, grows, records-more, leaves-more, entries-kept, entries-added}
 use Rattle.log_replay.proofs.LoggedAgain.{from_then, from_map, logged_says}
 use Rattle.log_replay.proofs.More.{homes-more}
 

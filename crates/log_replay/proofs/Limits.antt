@@ -1,5 +1,5 @@
 -- The limits of a header, one by one.
-use Rattle.std.proofs.Common.{◌≡◌, ◌⊎◌, ℕ, ◌+◌, ◌≤◌, ◌<◌, true, false, Bool, ◌||◌, ◌==◌, List, [], ◌∷◌, Option, None, Some, All, inl, inr, refl, ap, length, get_or, arith}
+use Rattle.std.proofs.Common.{◌≡◌, ◌⊎◌, ℕ, ◌≤◌, ◌<◌, true, false, Bool, ◌||◌, ◌==◌, List, Option, None, Some, All, inl, inr, refl, ap, length, get_or, arith}
 use Rattle.std.specs.List.{list_all}
 use Rattle.std.proofs.lemmas.Bool.{and_parts, leb-true, eqb-true}
 use Rattle.std.proofs.lemmas.List.Sums.{AllPass-from_list_all}
@@ -8,7 +8,7 @@ use Rattle.lms_tree.specs.Types.{height}
 use Rattle.hss_keys.specs.Levels.{CanSign, IsLevels, capacity}
 use Rattle.log_replay.specs.declared.parts.Header.{Header}
 use Rattle.log_replay.specs.Records.{Log, header_of}
-use Rattle.log_replay.specs.WellMade.{WellMade, is_within, is_within_limits, is_signing_level, header_holds}
+use Rattle.log_replay.specs.WellMade.{is_within, is_within_limits, is_signing_level, header_holds}
 use Rattle.log_replay.specs.Growth.{HeaderLimits, HeaderIsWithin, FewerRecords}
 use Rattle.log_replay.proofs.Growing.{Standing, stands}
 

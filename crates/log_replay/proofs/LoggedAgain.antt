@@ -1,5 +1,5 @@
 -- A statement's logged form reads as that statement.
-use Rattle.std.proofs.Common.{◌≡◌, ℕ, ◌≤◌, List, [], ◌∷◌, Bool, true, false, cond, ◌&&◌, Option, Some, None, length, refl, sym, ap}
+use Rattle.std.proofs.Common.{◌≡◌, ℕ, ◌≤◌, List, [], Bool, true, false, cond, ◌&&◌, Option, Some, None, length, refl, sym, ap}
 use Rattle.std.specs.Prelude.{nat_le, is_none, option_and_then}
 use Rattle.std.specs.Option.{option_map}
 use Rattle.std.specs.Result.{result_ok}
@@ -11,11 +11,9 @@ use Rattle.cbor_core.specs.Decoding.{strict_item}
 use Rattle.cose_sign1.specs.declared.parts.Parts.{Parts}
 use Rattle.cose_sign1.specs.Parts.{parts_in}
 use Rattle.cose_sign1.specs.Headers.{header_fault}
-use Rattle.statement.specs.declared.names.Names.{Names}
 use Rattle.statement.specs.declared.statement_type.Statement.{Statement}
 use Rattle.statement.specs.Claims.{names_of}
-use Rattle.statement.specs.Statements.{Reads, Logged, most_logged}
-use Rattle.statement.specs.Parsed.{said, StatementOf}
+use Rattle.statement.specs.Statements.{most_logged}
 use Rattle.statement.specs.Said.{Said, said_of, said_from, said_with, said_by, said_parts, said_in, protected_entries, is_bare, logged_statement, LoggedIsStatement}
 
 -- ---- what is read step by step

@@ -1,5 +1,5 @@
 -- What a state keeps, looked up, is what the log says.
-use Rattle.std.proofs.Common.{◌≡◌, ℕ, ◌+◌, max, List, [], ◌∷◌, Bool, true, false, cond, not, Option, None, Some, refl, sym, ap, ◌∙◌, length, nat_lt, ◌<◌, ◌≤◌, drop, get_or}
+use Rattle.std.proofs.Common.{◌≡◌, ℕ, ◌+◌, max, List, [], ◌∷◌, Bool, true, cond, not, Option, None, Some, refl, sym, ap, ◌∙◌, length, nat_lt, ◌<◌, ◌≤◌, drop, get_or}
 use Rattle.std.specs.Prelude.{map, option_map, unwrap_or, position}
 use Rattle.std.specs.List.{prefix_len, position_or_len, position_from}
 use Rattle.std.proofs.lemmas.Iterator.Adapters.{position_from-zero}

@@ -11,7 +11,7 @@ use Rattle.log_replay.specs.declared.state.State.{State}
 use Rattle.log_replay.specs.declared.words.Failing.{Failing}
 use Rattle.log_replay.specs.declared.words.Why.TheVariants as why
 use Rattle.log_replay.specs.Lists.{Lists}
-use Rattle.log_replay.specs.Records.{Log, Record, header_record, record_of}
+use Rattle.log_replay.specs.Records.{Record, header_record, record_of}
 use Rattle.log_replay.specs.Steps.{Takes}
 use Rattle.log_replay.specs.WellMade.{fails_by, failing_of, header_holds}
 use Rattle.log_replay.specs.Kept.{Kept, StateOf, Stands, kept_from, first_kept}

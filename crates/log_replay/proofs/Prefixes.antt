@@ -1,5 +1,5 @@
 -- Prefixes of a well made log, and one record more.
-use Rattle.std.proofs.Common.{◌≡◌, List, [], ◌∷◌, ◌++◌, Option, None, Some, ℕ, sym, ap, subst, append_assoc, append-nil, take, drop}
+use Rattle.std.proofs.Common.{◌≡◌, List, [], ◌∷◌, ◌++◌, None, ℕ, sym, subst, append_assoc, append-nil, take, drop}
 use Rattle.std.proofs.lemmas.List.{take-append-drop}
 use Rattle.log_replay.specs.Records.{Log}
 use Rattle.log_replay.specs.WellMade.{failing_of, WellMade, WellMadeAfter}

@@ -1,6 +1,6 @@
 -- What a record or an entry is written as reads as it.
 use Rattle.std.proofs.Common.{◌≡◌, ℕ, ◌+◌, ◌<◌, ◌≤◌, List, [], ◌∷◌, ◌++◌, Bool, true, ◌&&◌, ◌==◌, Option, None, Some, refl, sym, ap, ◌∙◌, append_assoc, length, arith}
-use Rattle.std.specs.Prelude.{Result, Ok, Err, IfOk, map, option_map, option_and_then, nat_le, if◌then◌else◌}
+use Rattle.std.specs.Prelude.{Result, Ok, Err, IfOk, map, option_map, option_and_then, if◌then◌else◌}
 use Rattle.std.proofs.lemmas.Bool.{le-ltb, le-leb, eq-eqb}
 use Rattle.cbor_core.specs.declared.tree.Item.{Item}
 use Rattle.cbor_core.specs.declared.tree.Node.TheVariants.{outs-Uint, outs-Bytes, outs-Text, outs-Array}
@@ -18,7 +18,6 @@ use Rattle.policy_rules.specs.Conditions.{each_onto}
 use Rattle.policy_rules.specs.Spelling.{holder_item}
 use Rattle.log_replay.specs.declared.parts.Header.{Header}
 use Rattle.log_replay.specs.declared.parts.BatchParts.{BatchParts}
-use Rattle.log_replay.specs.declared.parts.EntryParts.{EntryParts}
 use Rattle.log_replay.specs.Records.{Record, header_record, reserve_record, batch_record, record_of, record_in, record_item, record_of_parts, header_from, holder_from, holder_of_parts, any_holder_in, level_by, level_from, level_of_parts, level_in, levels_in, level_item, batch_from, entries_array, entry_item, entry_in, entry_of_parts, parts_from, parts_of}
 use Rattle.log_replay.specs.Spelling.{body_of, entry_bytes, IsWritten, FitsIn, IsBodyOf, IsEntryOf}
 

@@ -1,5 +1,5 @@
 -- The first rule that fails by what is kept is that of the log.
-use Rattle.std.proofs.Common.{◌≡◌, ℕ, ◌+◌, List, [], ◌∷◌, ◌++◌, Bool, true, false, ◌==◌, not, ◌||◌, nat_lt, Option, None, Some, refl, sym, ap, ◌∙◌, length, length-append, arith}
+use Rattle.std.proofs.Common.{◌≡◌, ℕ, ◌+◌, List, [], ◌∷◌, ◌++◌, Bool, false, ◌==◌, not, Option, None, Some, refl, sym, ap, ◌∙◌, length, length-append, arith}
 use Rattle.std.specs.Prelude.{map, option_map}
 use Rattle.std.specs.Option.{option_or}
 use Rattle.std.proofs.lemmas.Bool.{ne_eqb}
@@ -16,12 +16,12 @@ use Rattle.log_replay.specs.declared.words.Judgement.{Judgement}
 use Rattle.log_replay.specs.declared.words.Failing.{Failing}
 use Rattle.log_replay.specs.declared.words.Why.TheVariants as why
 use Rattle.receipts.specs.Signed.{signed_text}
-use Rattle.log_replay.specs.Records.{Log, Record, Entry, header_record, reserve_record, batch_record, record_of, header_of, leaves_of, entries_of, entry_of, reserved_of, used_of, logged_bytes}
+use Rattle.log_replay.specs.Records.{Log, Record, Entry, header_record, reserve_record, batch_record, record_of, header_of, leaves_of, entries_of, entry_of, reserved_of, used_of}
 use Rattle.log_replay.specs.Judging.{judge, in_force, last_moment}
 use Rattle.log_replay.specs.Kept.{Kept, StateOf}
-use Rattle.log_replay.specs.KeptRows.{judge_kept, kept_entry_rows, kept_entry_failing, kept_text, kept_batch_rows, kept_batch_failing, failing_behind, failing_first, failing_with, failing_kept}
+use Rattle.log_replay.specs.KeptRows.{kept_entry_rows, kept_entry_failing, kept_text, kept_batch_rows, kept_batch_failing, failing_behind, failing_first, failing_with, failing_kept}
 use Rattle.log_replay.specs.Laws.{FailingIsFailing}
-use Rattle.log_replay.specs.WellMade.{fails_by, failing_by, failing_of, failing_after, has_shape, entry_rows, entry_failing, reserve_holds, index_holds, text_signed, batch_rows, batch_failing}
+use Rattle.log_replay.specs.WellMade.{fails_by, failing_after, has_shape, entry_rows, entry_failing, reserve_holds, index_holds, text_signed, batch_rows, batch_failing}
 use Rattle.log_replay.proofs.Lookups.{judged_kept, in_force_now}
 
 abbrev pub RootOfLeaves : Type 0

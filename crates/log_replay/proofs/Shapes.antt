@@ -1,6 +1,5 @@
 -- Records and entries within their limits have strict bytes, and few enough.
-use Rattle.std.proofs.Common.{◌≡◌, ℕ, ◌+◌, ◌*◌, ◌<◌, ◌≤◌, ◌^◌, Bool, true, ◌&&◌, List, [], ◌∷◌, length, map, refl, sym, ap, ◌∙◌, nat_lt, lt-ltb, le-leb, arith}
-use Rattle.std.specs.Prelude.{nat_le}
+use Rattle.std.proofs.Common.{◌≡◌, ℕ, suc, ◌+◌, ◌*◌, ◌<◌, ◌≤◌, ◌^◌, true, List, [], ◌∷◌, length, map, refl, ap, ◌∙◌, lt-ltb, le-leb, arith}
 use Rattle.std.specs.Str.{is_utf8}
 use Rattle.std.proofs.lemmas.Bool.{and_from}
 use Rattle.std.proofs.lemmas.List.{length-map}
@@ -19,7 +18,8 @@ use Rattle.lms_tree.specs.declared.types.LmsType.TheVariants.{H5, H10, H15, H20,
 use Rattle.lms_tree.specs.declared.types.Level.{Level}
 use Rattle.lms_tree.specs.Types.{lms_parameters}
 use Rattle.policy_rules.specs.declared.documents.Holder.{Holder}
-use Rattle.policy_rules.specs.Spelling.{holder_item}
+use Rattle.policy_rules.specs.Documents.{bootstrap_of}
+use Rattle.policy_rules.specs.Spelling.{holder_item, policy_item}
 use Rattle.log_replay.specs.declared.parts.Header.{Header}
 use Rattle.log_replay.specs.Records.{header_record, reserve_record, batch_record, level_item, record_item, entry_item}
 use Rattle.log_replay.specs.Spelling.{FitsIn}
@@ -88,10 +88,17 @@ module _ (uint : UintFits) (bytes : BytesFit) (text : TextFits) (array : ArrayFi
   levels_strict [] = refl
   levels_strict (l ∷ ls) = and_from _ _ (level_strict 14 l refl) (levels_strict ls)
 
-  holder_strict : (h : Holder) → length h.iss ≤ 1024 → is_utf8 h.iss ≡ true → length h.kid ≤ 64 → length h.key ≡ 60 → is_strict_item 15 (holder_item h) ≡ true
-  holder_strict h iss utf8 kid key =
-      array 14 (text_item h.iss ∷ bytes_item h.kid ∷ bytes_item h.key ∷ [])
-      ∙ and_from _ _ refl (and_from _ _ (words 14 h.iss (omega arith) utf8) (and_from _ _ (string 14 h.kid (omega arith)) (and_from _ _ (string 14 h.key (omega arith)) refl)))
+  holder_strict : (room : ℕ) (h : Holder) → length h.iss ≤ 1024 → is_utf8 h.iss ≡ true → length h.kid ≤ 64 → length h.key ≡ 60 → is_strict_item (suc room) (holder_item h) ≡ true
+  holder_strict room h iss utf8 kid key =
+      array room (text_item h.iss ∷ bytes_item h.kid ∷ bytes_item h.key ∷ [])
+      ∙ and_from _ _ refl (and_from _ _ (words room h.iss (omega arith) utf8) (and_from _ _ (string room h.kid (omega arith)) (and_from _ _ (string room h.key (omega arith)) refl)))
+
+  pub bootstrap_strict : (g : Holder) → length g.iss ≤ 1024 → is_utf8 g.iss ≡ true → length g.kid ≤ 64 → length g.key ≡ 60 → is_strict_item 16 (policy_item (bootstrap_of g)) ≡ true
+  bootstrap_strict g iss utf8 kid key =
+      let governors : is_strict_item 15 (array_item (holder_item g ∷ [])) ≡ true = array 14 (holder_item g ∷ []) ∙ and_from _ _ refl (and_from _ _ (holder_strict 13 g iss utf8 kid key) refl) in
+      let none : is_strict_item 15 (array_item []) ≡ true = array 14 [] in
+      array 15 (uint_item 1 ∷ uint_item 0 ∷ array_item (holder_item g ∷ []) ∷ array_item [] ∷ array_item [] ∷ [])
+      ∙ and_from _ _ refl (and_from _ _ (number 15 1 (omega arith)) (and_from _ _ (number 15 0 (omega arith)) (and_from _ _ governors (and_from _ _ none (and_from _ _ none refl)))))
 
   pub header_strict : (h : Header) → length h.name ≤ 128 → is_utf8 h.name ≡ true → length h.governor.iss ≤ 1024 → is_utf8 h.governor.iss ≡ true → length h.governor.kid ≤ 64 → length h.governor.key ≡ 60
       → length h.key ≡ 60 → length h.levels ≤ 3 → h.max_entries < 2 ^ 64 → h.block < 2 ^ 64 → is_strict_item 16 (record_item (header_record h)) ≡ true
@@ -100,7 +107,7 @@ module _ (uint : UintFits) (bytes : BytesFit) (text : TextFits) (array : ArrayFi
       array 14 (map level_item h.levels) ∙ and_from _ _ (le-leb (length (map level_item h.levels)) most_parts (omega (arith, length-map h.levels level_item))) (levels_strict h.levels) in
       array 15 (uint_item 0 ∷ uint_item 1 ∷ text_item h.name ∷ holder_item h.governor ∷ bytes_item h.key ∷ array_item (map level_item h.levels) ∷ uint_item h.max_entries ∷ uint_item h.block ∷ [])
       ∙ and_from _ _ refl (and_from _ _ (number 15 0 (omega arith)) (and_from _ _ (number 15 1 (omega arith)) (and_from _ _ (words 15 h.name (omega arith) utf8)
-      (and_from _ _ (holder_strict h.governor iss iss_utf8 kid governor) (and_from _ _ (string 15 h.key (omega arith)) (and_from _ _ inner (and_from _ _ (number 15 h.max_entries entries) (and_from _ _ (number 15 h.block block) refl))))))))
+      (and_from _ _ (holder_strict 14 h.governor iss iss_utf8 kid governor) (and_from _ _ (string 15 h.key (omega arith)) (and_from _ _ inner (and_from _ _ (number 15 h.max_entries entries) (and_from _ _ (number 15 h.block block) refl))))))))
 
 module _ (uint : UintLength) (bytes : BytesLength) (text : TextLength) (array : ArrayLength) where
   array_some : (items : List Item) → 0 < strict_len 16 (array_item items)
@@ -183,6 +190,24 @@ module _ (uint : UintLength) (bytes : BytesLength) (text : TextLength) (array : 
         size_small (size_of (length (map level_item h.levels))),
       )
 
+  bootstrap_short : (g : Holder) → length g.iss ≤ 1024 → length g.kid ≤ 64 → length g.key ≡ 60 → strict_len 16 (policy_item (bootstrap_of g)) ≤ 1300
+  bootstrap_short g iss kid key =
+      omega (
+        arith,
+        array 15 (uint_item 1 ∷ uint_item 0 ∷ array_item (holder_item g ∷ []) ∷ array_item [] ∷ array_item [] ∷ []),
+        array 14 (holder_item g ∷ []),
+        array 13 (text_item g.iss ∷ bytes_item g.kid ∷ bytes_item g.key ∷ []),
+        array 14 [],
+        uint 15 1,
+        uint 15 0,
+        text 13 g.iss,
+        bytes 13 g.kid,
+        bytes 13 g.key,
+        size_small (size_of (length g.iss)),
+        size_small (size_of (length g.kid)),
+        size_small (size_of (length g.key)),
+      )
+
 module _ (uint : UintFits) (bytes : BytesFit) (text : TextFits) (array : ArrayFits) (uint_len : UintLength) (bytes_len : BytesLength) (text_len : TextLength) (array_len : ArrayLength) where
   pub reserve_fits : (upto : ℕ) → upto < 2 ^ 64 → FitsIn 27 (record_item (reserve_record upto))
   reserve_fits upto few = record { strict = reserve_strict uint bytes text array upto few; short = reserve_short uint_len bytes_len text_len array_len upto; some = array_some uint_len bytes_len text_len array_len _ }
@@ -205,3 +230,7 @@ module _ (uint : UintFits) (bytes : BytesFit) (text : TextFits) (array : ArrayFi
         short = header_short uint_len bytes_len text_len array_len h name iss kid governor key levels;
         some = array_some uint_len bytes_len text_len array_len _;
       }
+
+  pub bootstrap_fits : (g : Holder) → length g.iss ≤ 1024 → is_utf8 g.iss ≡ true → length g.kid ≤ 64 → length g.key ≡ 60 → FitsIn 1300 (policy_item (bootstrap_of g))
+  bootstrap_fits g iss utf8 kid key =
+      record { strict = bootstrap_strict uint bytes text array g iss utf8 kid key; short = bootstrap_short uint_len bytes_len text_len array_len g iss kid key; some = array_some uint_len bytes_len text_len array_len _ }

@@ -1,5 +1,5 @@
 -- States that stand for logs.
-use Rattle.std.proofs.Common.{◌≡◌, refl}
+use Rattle.std.proofs.Common.{refl}
 use Rattle.log_replay.specs.Laws.{NothingStands}
 
 pub nothing_stands : NothingStands

@@ -1,5 +1,5 @@
 -- A logged form, as the parser answers it.
-use Rattle.std.proofs.Common.{◌≡◌, ◌≢◌, false, ℕ, List, Option, Some, None, Result, Ok, Err, sym, refl, ap, ◌∙◌, subst}
+use Rattle.std.proofs.Common.{◌≡◌, ◌≢◌, false, ℕ, List, Option, Some, None, Result, Ok, Err, sym, refl, ap, ◌∙◌}
 use Rattle.std.specs.Prelude.{option_map, IfSome, IfNone}
 use Rattle.cbor_core.specs.Bytes.{IsBytes}
 use Rattle.statement.specs.declared.statement_type.Statement.{Statement}

@@ -1,5 +1,5 @@
 -- What holds of all logs.
-use Rattle.std.specs.Prelude.{◌≡◌, ◌↔◌, ℕ, ◌+◌, ◌<◌, ◌≤◌, true, List, [], ◌∷◌, ◌++◌, length, min, Option, Some, None, slice_get}
+use Rattle.std.specs.Prelude.{◌≡◌, ℕ, ◌+◌, ◌<◌, ◌≤◌, true, List, [], ◌∷◌, ◌++◌, length, min, Some, None, slice_get}
 use Rattle.hss_keys.specs.Levels.{capacity, IsLevels}
 use Rattle.hss_keys.specs.Functions.{hss_verifies, flat_index, names_levels}
 use Rattle.statement.specs.Said.{Said, id_of}

@@ -1,9 +1,9 @@
 -- The judgement of a statement.
-use Rattle.std.specs.Prelude.{ℕ, max, List, [], ◌∷◌, Bool, true, false, ◌&&◌, not, nat_lt, nat_le, ◌==◌, if◌then◌else◌, Option, None, Some, length, map, find, fold, position, option_map, option_and_then, unwrap_or, is_none, codes, negsuc, pos}
+use Rattle.std.specs.Prelude.{ℕ, max, List, [], ◌∷◌, Bool, true, false, ◌&&◌, not, nat_lt, nat_le, ◌==◌, if◌then◌else◌, Option, None, Some, length, map, find, fold, position, option_map, option_and_then, unwrap_or, is_none, codes, negsuc}
 use Rattle.std.specs.Str.{bytes_eq}
 use Rattle.cbor_core.specs.Rows.{first_row}
 use Rattle.cose_sign1.specs.declared.labels.Label.{Label}
-use Rattle.cose_sign1.specs.declared.labels.Label.TheVariants.{Int, Text}
+use Rattle.cose_sign1.specs.declared.labels.Label.TheVariants.{Int}
 use Rattle.cose_sign1.specs.OneTbs.{tbs_of}
 use Rattle.statement.specs.declared.names.ContentType.{ContentType}
 use Rattle.statement.specs.declared.names.ContentType.TheVariants as of_type

@@ -1,5 +1,5 @@
 -- The judgement and the rules by what a state keeps.
-use Rattle.std.specs.Prelude.{◌≡◌, ℕ, ◌+◌, max, List, [], ◌∷◌, ◌++◌, Bool, not, ◌||◌, nat_lt, Option, None, Some, length, option_map, unwrap_or, position}
+use Rattle.std.specs.Prelude.{ℕ, ◌+◌, max, List, [], ◌∷◌, ◌++◌, Bool, not, ◌||◌, nat_lt, Option, None, Some, length, option_map, unwrap_or, position}
 use Rattle.std.specs.Option.{option_or}
 use Rattle.std.specs.Str.{bytes_eq}
 use Rattle.sha2.specs.Sha256.{sha256}

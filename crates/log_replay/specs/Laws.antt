@@ -1,5 +1,5 @@
 -- Laws of logs, and of states that stand for them.
-use Rattle.std.specs.Prelude.{◌≡◌, ℕ, ◌+◌, List, [], ◌∷◌, ◌++◌, Option, Some, None, take}
+use Rattle.std.specs.Prelude.{◌≡◌, ℕ, List, [], ◌∷◌, ◌++◌, Some, None, take}
 use Rattle.statement.specs.Said.{Said}
 use Rattle.policy_rules.specs.declared.documents.Policy.{Policy}
 use Rattle.log_replay.specs.declared.parts.Header.{Header}

@@ -1,5 +1,5 @@
 -- The log as a list of record bodies, and what is read from it.
-use Rattle.std.specs.Prelude.{ℕ, ◌+◌, max, List, [], ◌∷◌, ◌++◌, Bool, ◌&&◌, nat_lt, nat_le, ◌==◌, if◌then◌else◌, Option, None, Some, length, flat_map, filter_map, option_map, option_and_then, fold, sum_by, map}
+use Rattle.std.specs.Prelude.{ℕ, ◌+◌, max, List, [], ◌∷◌, ◌++◌, ◌&&◌, nat_lt, nat_le, ◌==◌, if◌then◌else◌, Option, None, Some, length, flat_map, filter_map, option_map, option_and_then, fold, sum_by, map}
 use Rattle.cbor_core.specs.declared.tree.Item.{Item}
 use Rattle.cbor_core.specs.Decoding.{strict_item}
 use Rattle.cbor_core.specs.Items.{uint_in, bytes_in, text_in, array_in, is_uint, uint_item, bytes_item, text_item, array_item}

@@ -1,7 +1,7 @@
 -- The code's values as the words of the log have them.
 use Rattle.std.specs.Prelude.{Bool, true, false}
 use Rattle.statement.specs.declared.stops.ParseStop.{ParseStop}
-use Rattle.statement.specs.declared.stops.ParseStop.TheVariants.{Sign1, Detached, NoClaims, NoIssuer, NoSubject, NoKid, BadClaim, TooLarge, OutOfMemory}
+use Rattle.statement.specs.declared.stops.ParseStop.TheVariants.{OutOfMemory}
 use Rattle.statement.specs.Said.{said_of}
 use Rattle.log_replay.specs.declared.parts.Header.{Header}
 use Rattle.log_replay.specs.declared.parts.Heading as of_heading

@@ -1,10 +1,10 @@
 -- The bodies of records and the bytes of entries.
-use Rattle.std.specs.Prelude.{◌≡◌, ℕ, ◌+◌, ◌≤◌, ◌<◌, true, List, [], ◌∷◌, ◌++◌, length, Option, Some}
+use Rattle.std.specs.Prelude.{◌≡◌, ℕ, ◌+◌, ◌≤◌, ◌<◌, true, List, [], ◌∷◌, ◌++◌, length, Some}
 use Rattle.cbor_core.specs.declared.words.Grammar.TheVariants.{Strict}
 use Rattle.cbor_core.specs.declared.tree.Item.{Item}
 use Rattle.cbor_core.specs.Limits.{most_containers}
 use Rattle.cbor_core.specs.Head.{head}
-use Rattle.cbor_core.specs.Encoding.{size_of}
+use Rattle.cbor_core.specs.Encoding.{size_of, most}
 use Rattle.cbor_core.specs.Spells.{Spells}
 use Rattle.cbor_core.specs.Decoding.{strict_item}
 use Rattle.cbor_core.specs.Fitting.{is_strict_item, strict_len}
@@ -36,6 +36,11 @@ pub record FitsIn (most : ℕ) (item : Item) : Type 0 where
   pub strict : is_strict_item most_containers item ≡ true
   pub short : strict_len most_containers item ≤ most
   pub some : 0 < strict_len most_containers item
+
+-- an item has strict bytes, no more than a buffer holds
+pub record HasBytes (item : Item) : Type 0 where
+  pub strict : is_strict_item most_containers item ≡ true
+  pub short : strict_len most_containers item ≤ most
 
 -- a body of a record: it reads as that record, and isn't empty or too long
 pub record IsBodyOf (r : Record) (body : List ℕ) : Type 0 where

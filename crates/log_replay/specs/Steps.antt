@@ -1,7 +1,6 @@
 -- What taking a record does.
 use Rattle.std.specs.Prelude.{◌≡◌, ℕ, List, [], ◌∷◌, ◌++◌, Option, Some, None, Result, Ok, Err, length}
-use Rattle.statement.specs.Said.{Said, said_of}
-use Rattle.log_replay.specs.declared.checked.Checked.{Checked}
+use Rattle.statement.specs.Said.{Said}
 use Rattle.log_replay.specs.declared.words.Failing.{Failing}
 use Rattle.log_replay.specs.declared.words.StepStop.{StepStop}
 use Rattle.log_replay.specs.declared.words.StepStop.TheVariants.{BadRecord, OutOfMemory}

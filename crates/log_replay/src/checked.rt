@@ -6,15 +6,20 @@ ghost use Rattle.cbor_core.specs.Limits.{longest_string};
 ghost use Rattle.cose_sign1.specs.OneTbs.{tbs_of};
 ghost use Rattle.cose_sign1.specs.Tbs.{tbs_len};
 ghost use Rattle.hss_keys.specs.Functions.{hss_verifies};
-ghost use Rattle.policy_rules.specs.Documents.{document_of as document_by};
+ghost use Rattle.policy_rules.specs.Documents.{document_of as document_by, PolicyOf};
+ghost use Rattle.policy_rules.specs.Spelling.{policy_item};
 ghost use Rattle.statement.specs.Said.{said_of, logged_statement};
+ghost use Rattle.log_replay.specs.Spelling.{HasBytes};
 ghost use Rattle.log_replay.specs.Judging.{facts_of as facts_said, kind_of as kind_said, is_policy as is_policy_said, document_in, signed_text_of};
 
 use crate::keys::verifies;
-use cbor_core::{Bytes, Text};
+use cbor_core::{Bytes, Text, strict_items_are_spelled, strict_spelling_is_unique};
 use cose_sign1::{sig_structure_is_one, to_be_signed_into, to_be_signed_len};
 use hss_keys::Key60;
-use policy_rules::{ContentKind, Facts, Policy, PolicyStop, decode, documents_have_one_answer};
+use policy_rules::{
+    ContentKind, Facts, Policy, PolicyStop, decode, documents_are_spelled_once,
+    documents_have_one_answer,
+};
 use statement::{ContentType, Statement, logged_form_is_the_statement};
 use std::alloc::{AllocError, Global};
 
@@ -33,6 +38,7 @@ pub struct Checked {
     ghost facts_are: { facts ≡ facts_said (said_of statement) },
     ghost signed_is: { signed ≡ signed_text_of (said_of statement) },
     ghost document_is: { document ≡ document_in (said_of statement) },
+    ghost document_bytes: { ForSome document (λ p. HasBytes (policy_item p)) },
     ghost truth: { ForSome pair (λ p. p.1 ≡ hss_verifies p.0 statement.signature signed) },
 }
 
@@ -104,13 +110,28 @@ pub(crate) fn is_policy(statement: &Statement) -> bool
     }
 }
 
+// A policy that was read has strict bytes, those that it was read from.
+fn has_bytes(policy: &Policy, bytes: &[u8])
+    requires { PolicyOf bytes.now policy.now }
+    ensures { HasBytes (policy_item policy.now) }
+{
+    documents_are_spelled_once();
+    strict_items_are_spelled();
+    strict_spelling_is_unique();
+    let _len = bytes.len();
+}
+
 // The document that bytes are, if they are one.
 pub(crate) fn document_of(alloc: Global, bytes: &[u8]) -> Result<Option<Policy>, AllocError>
-    ensures { IfOk result (λ document. document ≡ document_by bytes.now) }
+    ensures value { IfOk result (λ document. document ≡ document_by bytes.now) }
+    ensures bytes { IfOk result (λ document. ForSome document (λ p. HasBytes (policy_item p))) }
 {
     documents_have_one_answer();
     match decode(alloc, bytes) {
-        Ok(policy) => Ok(Some(policy)),
+        Ok(policy) => {
+            has_bytes(&policy, bytes);
+            Ok(Some(policy))
+        }
         Err(PolicyStop::Cbor(_)) => Ok(None),
         Err(PolicyStop::BadPolicy(_)) => Ok(None),
         Err(PolicyStop::OutOfMemory) => Err(AllocError),
@@ -122,7 +143,8 @@ pub(crate) fn document_of_statement(
     alloc: Global,
     statement: &Statement,
 ) -> Result<Option<Policy>, AllocError>
-    ensures { IfOk result (λ document. document ≡ document_in (said_of statement.now)) }
+    ensures value { IfOk result (λ document. document ≡ document_in (said_of statement.now)) }
+    ensures bytes { IfOk result (λ document. ForSome document (λ p. HasBytes (policy_item p))) }
 {
     if is_policy(statement) {
         return document_of(alloc, statement.payload.as_slice());
@@ -149,6 +171,7 @@ fn found_of(alloc: Global, statement: &Statement) -> Result<Found, AllocError>
     ensures facts { IfOk result (λ found. found.facts ≡ facts_said (said_of statement.now)) }
     ensures signed { IfOk result (λ found. found.signed ≡ signed_text_of (said_of statement.now)) }
     ensures document { IfOk result (λ found. found.document ≡ document_in (said_of statement.now)) }
+    ensures bytes { IfOk result (λ found. ForSome found.document (λ p. HasBytes (policy_item p))) }
 {
     let facts = facts_of(alloc, statement)?;
     let signed = structure_of(

@@ -70,6 +70,8 @@ pub(crate) fn header_from(heading: Heading) -> Option<Header>
     ensures most { IfSome result (λ header. header.max_entries ≤ 65536) }
     ensures name_some { IfSome result (λ header. 1 ≤ length header.name) }
     ensures name_most { IfSome result (λ header. length header.name ≤ 128) }
+    ensures iss { IfSome result (λ header. length header.governor.iss ≤ 1024) }
+    ensures kid { IfSome result (λ header. length header.governor.kid ≤ 64) }
 {
     if !is_within_limits(&heading) {
         return None;

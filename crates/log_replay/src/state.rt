@@ -2,7 +2,9 @@
 
 ghost use Rattle.std.specs.Prelude.{◌≡◌, ℕ, ◌≤◌, ◌<◌, ◌+◌, ◌++◌, ◌∷◌, [], List, None, Some, length, map, vec_len, IsSome, IfOk, OnOk, OnErr, option_and_then};
 ghost use Rattle.std.specs.Option.{is_some, option_copied, ForSome};
+ghost use Rattle.policy_rules.specs.Spelling.{policy_item};
 ghost use Rattle.statement.specs.Said.{said_of};
+ghost use Rattle.log_replay.specs.Spelling.{HasBytes};
 ghost use Rattle.log_replay.specs.Kept.{kept_from, Stands};
 ghost use Rattle.log_replay.specs.KeptRows.{place_in, judge_kept};
 
@@ -12,12 +14,14 @@ use crate::laws::state_laws;
 use crate::parts::Header;
 use crate::tables::Tables;
 use crate::words::Judgement;
+use crate::writing::policy_text;
+use cbor_core::Bytes;
 use hss_keys::Key60;
 use merkle_tree::NodeTable;
 use policy_eval::History;
 use policy_rules::Policy;
 use statement::{Hash, Statement};
-use std::alloc::Global;
+use std::alloc::{AllocError, Global};
 
 /// What is kept of a log, the list of its record bodies.
 #[derive(Drop)]
@@ -40,6 +44,7 @@ pub struct State {
     ghost counted: { records ≤ 1 + reserved + length tables.ids },
     ghost bounded: { reserved ≤ 1073741824 },
     ghost small: { logged ≤ 536870912 },
+    ghost written: { ForSome policy (λ p. HasBytes (policy_item p)) },
     ghost made: { ∥ Stands (kept_from header policy records reserved used tables.ids tables.homes tables.facts tables.leaves last logged) ∥₁ },
 }
 
@@ -76,6 +81,7 @@ pub(crate) fn judged(
 
 impl State {
     ghost use Rattle.log_replay.specs.Records.{Log, header_of, entries_of, leaves_of, reserved_of, homes_of, logged_bytes};
+    ghost use Rattle.log_replay.specs.Answers.{policy_bytes};
     ghost use Rattle.log_replay.specs.Judging.{judge as judge_after, moment_after, key_of, last_moment};
     ghost use Rattle.log_replay.specs.StateSeen.{kept_of, StandsFor, HasRoom};
     ghost use Rattle.merkle_tree.specs.Mth.{mth, leaf_hash};
@@ -167,6 +173,17 @@ impl State {
         match &self.policy {
             Some(policy) => key_for(policy, statement, is_policy(statement)),
             None => None,
+        }
+    }
+
+    /// The strict bytes of the policy in force. There is a header.
+    pub fn policy(&self) -> Result<Bytes, AllocError>
+        requires { IsSome self.now.header }
+        ensures { (R : Log) → StandsFor self.now R → IfOk result (λ bytes. policy_bytes R ≡ Some bytes) }
+    {
+        match &self.policy {
+            Some(policy) => policy_text(self.alloc, policy),
+            None => unreachable!(),
         }
     }
 

@@ -4,8 +4,10 @@ ghost use Rattle.std.specs.Prelude.{◌≡◌, ℕ, ◌≤◌, ◌<◌, ◌+◌,
 ghost use Rattle.cbor_core.specs.Rows.{first_row};
 ghost use Rattle.merkle_tree.specs.Mth.{leaf_hash as hash_of_leaf};
 ghost use Rattle.policy_rules.specs.Documents.{bootstrap_of};
+ghost use Rattle.policy_rules.specs.Spelling.{policy_item};
 ghost use Rattle.statement.specs.Said.{said_of};
 ghost use Rattle.log_replay.specs.Seen.{heading_seen, record_seen, entry_seen};
+ghost use Rattle.log_replay.specs.Spelling.{HasBytes};
 ghost use Rattle.log_replay.specs.WellMade.{header_holds};
 ghost use Rattle.log_replay.specs.Records.{Log, header_record, reserve_record, batch_record, record_of as record_in, entry_of};
 ghost use Rattle.log_replay.specs.Kept.{Stands, first_kept, with_reserve, with_batch, StateOf};
@@ -22,7 +24,7 @@ use crate::rules::{Measures, batch_fails, entry_fails, header_from, reservation_
 use crate::state::{State, judged};
 use crate::tables::Tables;
 use crate::words::{Failing, StepStop, Why};
-use crate::writing::shape_laws;
+use crate::writing::{bootstrap, shape_laws};
 use cbor_core::strict_items_are_spelled;
 use merkle_tree::leaf_hash;
 use policy_rules::Policy;
@@ -91,6 +93,7 @@ impl State {
         requires name_some { 1 ≤ length header.name }
         requires name_most { length header.name ≤ 128 }
         requires policy { policy ≡ bootstrap_of header.governor }
+        requires written { HasBytes (policy_item policy) }
         requires made { ∥ Stands (first_kept header) ∥₁ }
         ensures { kept_of result ≡ first_kept header }
     {
@@ -112,11 +115,13 @@ impl State {
         requires most { header.max_entries ≤ 65536 }
         requires name_some { 1 ≤ length header.name }
         requires name_most { length header.name ≤ 128 }
+        requires iss { length header.governor.iss ≤ 1024 }
+        requires kid { length header.governor.kid ≤ 64 }
         requires made { ∥ Stands (first_kept header) ∥₁ }
         ensures ok { OnOk result (kept_of self.new ≡ first_kept header) }
         ensures err { OnErr result (kept_of self.new ≡ kept_of self.old) }
     {
-        let policy = Policy::bootstrap(self.alloc, &header.governor)?;
+        let policy = bootstrap(self.alloc, &header.governor)?;
         *self = State::first(self.alloc, header, policy);
         Ok(())
     }

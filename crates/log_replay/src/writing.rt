@@ -5,11 +5,14 @@ ghost use Rattle.std.specs.Str.{is_utf8};
 ghost use Rattle.cbor_core.specs.Items.{uint_item, bytes_item, text_item, array_item};
 ghost use Rattle.cbor_core.specs.Limits.{most_containers};
 ghost use Rattle.cbor_core.specs.Encoding.{most};
+ghost use Rattle.cbor_core.specs.Exact.{strict_text};
 ghost use Rattle.cbor_core.specs.Fitting.{is_strict_item, strict_len};
-ghost use Rattle.policy_rules.specs.Spelling.{holder_item};
+ghost use Rattle.policy_rules.specs.declared.documents.Holder.{Holder};
+ghost use Rattle.policy_rules.specs.Documents.{bootstrap_of};
+ghost use Rattle.policy_rules.specs.Spelling.{holder_item, policy_item};
 ghost use Rattle.log_replay.specs.declared.parts.Header.{Header};
 ghost use Rattle.log_replay.specs.Records.{header_record, reserve_record, batch_record, record_item, level_item, entry_item};
-ghost use Rattle.log_replay.specs.Spelling.{IsWritten, FitsIn, IsBodyOf, IsEntryOf};
+ghost use Rattle.log_replay.specs.Spelling.{IsWritten, FitsIn, HasBytes, IsBodyOf, IsEntryOf};
 ghost use Rattle.log_replay.specs.WellMade.{is_within_limits};
 
 use crate::parts::Header;
@@ -19,12 +22,12 @@ use cbor_core::{
 };
 use hss_keys::Key60;
 use lms_tree::Level;
-use policy_rules::Holder;
+use policy_rules::{Holder, Policy, encode as encode_policy};
 use sqlite_items::Items;
 use statement::Blobs;
 use std::alloc::{AllocError, Global};
 
-/// A law: records and entries within the limits have strict bytes, and few enough.
+/// A law: records, entries and bootstrap policies within the limits have strict bytes, and few enough.
 pub fn shape_laws()
     ensures reserve { (upto : ℕ) → upto < 2 ^ 64 → FitsIn 27 (record_item (reserve_record upto)) }
     ensures entry { (at rule : ℕ) (logged : List ℕ) → at < 2 ^ 64 → rule ≤ 65535 → length logged ≤ 4194304
@@ -34,6 +37,8 @@ pub fn shape_laws()
     ensures header { (h : Header) → length h.name ≤ 128 → is_utf8 h.name ≡ true → length h.governor.iss ≤ 1024
         → is_utf8 h.governor.iss ≡ true → length h.governor.kid ≤ 64 → length h.governor.key ≡ 60 → length h.key ≡ 60
         → length h.levels ≤ 3 → h.max_entries < 2 ^ 64 → h.block < 2 ^ 64 → FitsIn 2000 (record_item (header_record h)) }
+    ensures bootstrap { (g : Holder) → length g.iss ≤ 1024 → is_utf8 g.iss ≡ true → length g.kid ≤ 64 → length g.key ≡ 60
+        → FitsIn 1300 (policy_item (bootstrap_of g)) }
 {
     strict_item_by_kind();
     strict_len_by_kind();
@@ -233,6 +238,33 @@ fn whole_key(key: &Key60)
     ensures { length key.now ≡ 60 }
 {
     let _bytes = key.as_slice();
+}
+
+/// The strict bytes of a policy that has them.
+pub(crate) fn policy_text(alloc: Global, policy: &Policy) -> Result<Bytes, AllocError>
+    requires { HasBytes (policy_item policy.now) }
+    ensures { IfOk result (λ bytes. bytes ≡ strict_text (policy_item policy.now)) }
+{
+    strict_items_are_spelled();
+    strict_text_is_exact();
+    match encode_policy(alloc, policy) {
+        Ok(bytes) => Ok(bytes),
+        Err(EncodeStop::NotStrict) => unreachable!(),
+        Err(EncodeStop::OutOfMemory) => Err(AllocError),
+    }
+}
+
+/// The bootstrap policy of a governor within the limits.
+pub(crate) fn bootstrap(alloc: Global, governor: &Holder) -> Result<Policy, AllocError>
+    requires iss { length governor.now.iss ≤ 1024 }
+    requires kid { length governor.now.kid ≤ 64 }
+    ensures value { IfOk result (λ policy. policy ≡ bootstrap_of governor.now) }
+    ensures bytes { IfOk result (λ policy. HasBytes (policy_item policy)) }
+{
+    shape_laws();
+    let _iss = governor.iss.as_str();
+    whole_key(&governor.key);
+    Policy::bootstrap(alloc, governor)
 }
 
 /// The body of a Header record, `[0, 1, name, [iss, kid, key], key, levels, max_entries, block]`, a level being

@@ -1,4 +1,4 @@
-use Rattle.std.proofs.Common.{◌≡◌, ◌∙◌, ap, sym, arith, List, ℕ, ◌<◌, ◌≤◌, ◌^◌, ◌++◌, length, refl}
+use Rattle.std.proofs.Common.{◌∙◌, ap, sym, arith, List, ℕ, ◌<◌, ◌≤◌, ◌^◌, ◌++◌, length}
 use Rattle.merkle_tree.specs.Mth.{leaf_hash}
 use Rattle.log_replay.specs.Spelling.{entry_front}
 use Rattle.log_replay.proofs.EntryText.{entry_is_text}

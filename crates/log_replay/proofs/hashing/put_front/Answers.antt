@@ -1,4 +1,4 @@
-use Rattle.std.proofs.Common.{length, arith}
+use Rattle.std.proofs.Common.{arith}
 use Rattle.cbor_core.specs.Encoding.{size_of}
 use Rattle.log_replay.proofs.EntryText.{writes-then, head-length}
 use Rattle.log_replay.proofs.hashing.put_front.Goals as goal

@@ -1,4 +1,4 @@
-use Rattle.std.proofs.Common.{◌≡◌, ◌<◌, length, get_or, true, arith, ap, []}
+use Rattle.std.proofs.Common.{◌≡◌, ◌<◌, length, get_or, true, arith, []}
 use Rattle.std.specs.Str.{bytes_eq}
 use Rattle.log_replay.proofs.Lookups.{found_at, found_none}
 use Rattle.log_replay.proofs.state.place.Goals as goal

@@ -1,4 +1,4 @@
-use Rattle.std.proofs.Common.{ℕ, ◌<◌, ◌≤◌, ◌^◌, arith, subst}
+use Rattle.std.proofs.Common.{◌<◌, ◌≤◌, ◌^◌, arith, subst}
 use Rattle.cbor_core.specs.declared.tree.Item.{Item}
 use Rattle.log_replay.specs.Spelling.{IsWritten, IsEntryOf}
 use Rattle.log_replay.proofs.ReadsAgain.{if_ok, entry_whole}

@@ -1,9 +1,8 @@
-use Rattle.std.proofs.Common.{◌≡◌, ℕ, List, ◌<◌, ◌≤◌, ◌^◌, true, length, arith, subst, ap, ◌∙◌, sym}
+use Rattle.std.proofs.Common.{◌≡◌, ◌<◌, ◌≤◌, ◌^◌, true, length, arith, subst, ap, ◌∙◌}
 use Rattle.std.specs.Str.{is_utf8, IsUtf8}
 use Rattle.std.proofs.lemmas.Str.{is_utf8-from_IsUtf8}
 use Rattle.cbor_core.specs.declared.tree.Item.{Item}
 use Rattle.cbor_core.specs.Limits.{most_containers}
-use Rattle.cbor_core.specs.Encoding.{most}
 use Rattle.cbor_core.specs.Fitting.{is_strict_item, strict_len}
 use Rattle.log_replay.specs.declared.parts.Header.{Header}
 use Rattle.log_replay.specs.Records.{header_record, record_item}

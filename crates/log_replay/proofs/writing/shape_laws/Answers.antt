@@ -1,4 +1,4 @@
-use Rattle.log_replay.proofs.Shapes.{reserve_fits, entry_fits, batch_fits, header_fits}
+use Rattle.log_replay.proofs.Shapes.{reserve_fits, entry_fits, batch_fits, header_fits, bootstrap_fits}
 use Rattle.log_replay.proofs.writing.shape_laws.Goals as goal
 
 pub returns : goal.returns
@@ -10,4 +10,5 @@ returns c =
       entry = entry_fits k.uint k.bytes k.text k.array l.uint l.bytes l.text l.array;
       batch = batch_fits k.uint k.bytes k.text k.array l.uint l.bytes l.text l.array;
       header = header_fits k.uint k.bytes k.text k.array l.uint l.bytes l.text l.array;
+      bootstrap = bootstrap_fits k.uint k.bytes k.text k.array l.uint l.bytes l.text l.array;
     }

@@ -1,9 +1,9 @@
-use Rattle.std.proofs.Common.{◌≡◌, ◌∙◌, ◌++◌, ◌∷◌, [], Some, None, sym, ap, subst}
+use Rattle.std.proofs.Common.{◌++◌, ◌∷◌, [], sym, subst}
 use Rattle.log_replay.specs.Records.{reserve_record}
-use Rattle.log_replay.specs.Kept.{Kept, StateOf, with_reserve}
-use Rattle.log_replay.specs.KeptRows.{with_record, failing_kept}
+use Rattle.log_replay.specs.Kept.{Kept, StateOf}
+use Rattle.log_replay.specs.KeptRows.{with_record}
 use Rattle.log_replay.specs.StateSeen.{kept_of}
-use Rattle.log_replay.proofs.Accepting.{fits_kept, fits_made, added_as}
+use Rattle.log_replay.proofs.Accepting.{fits_made, added_as}
 use Rattle.log_replay.proofs.state.State.accept_reserve.Goals as goal
 
 pub add_reserve-requires-clause-made : goal.add_reserve-requires-clause-made

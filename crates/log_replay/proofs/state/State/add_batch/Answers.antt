@@ -1,7 +1,10 @@
-use Rattle.std.proofs.Common.{◌≡◌, ◌++◌, ◌∷◌, [], ◌+◌, ◌∙◌, Some, None, arith, ap, sym, length, length-append, List, ℕ}
+use Rattle.std.proofs.Common.{◌≡◌, ◌++◌, ◌∷◌, [], ◌+◌, ◌∙◌, Some, None, arith, ap, sym, length, length-append, List, ℕ, subst}
+use Rattle.policy_rules.specs.declared.documents.Policy.{Policy}
 use Rattle.policy_rules.specs.declared.facts.Facts.{Facts}
+use Rattle.policy_rules.specs.Spelling.{policy_item}
 use Rattle.statement.specs.Said.{said_of}
 use Rattle.log_replay.specs.Judging.{document_in}
+use Rattle.log_replay.specs.Spelling.{HasBytes}
 use Rattle.log_replay.specs.StateSeen.{kept_of}
 use Rattle.log_replay.proofs.Batching.{policy_put, policy_left, batch_made}
 use Rattle.log_replay.proofs.state.State.add_batch.Goals as goal
@@ -23,6 +26,8 @@ invariant_of-self c =
       counted = omega (arith, count, length-append {A = List ℕ}, was.counted);
       bounded = was.bounded;
       small = omega (arith, ap length c.as_slice.ensures, c.requires.bytes);
+      written = λ x e. (let same : c.in-Some.policy ≡ x = cc in
+          subst (λ (p : Policy). HasBytes (policy_item p)) same (c.args.checked.now.document_bytes c.in-Some.policy (c.args.checked.now.document_is ∙ document)));
       made = batch_made (kept_of was) c.args.index c.args.at c.args.hash s (Some c.in-Some.policy) c.push.new.self.ids c.push.new.self.homes c.push.new.self.facts c.push.new.self.leaves (was.logged + length c.as_slice.result.now)
           (policy_put was.policy c.in-Some.policy s (sym was.ruled ∙ some) document)
           (put.ids ∙ ap (λ x. was.tables.ids ++ x ∷ []) c.args.checked.now.statement.statement_id) put.homes
@@ -46,6 +51,7 @@ invariant_of-self-in_default c =
       counted = omega (arith, count, length-append {A = List ℕ}, was.counted);
       bounded = was.bounded;
       small = omega (arith, ap length c.as_slice.ensures, c.requires.bytes);
+      written = was.written;
       made = batch_made (kept_of was) c.args.index c.args.at c.args.hash s was.policy c.push.new.self.ids c.push.new.self.homes c.push.new.self.facts c.push.new.self.leaves (was.logged + length c.as_slice.result.now)
           (policy_left was.policy s document)
           (put.ids ∙ ap (λ x. was.tables.ids ++ x ∷ []) c.args.checked.now.statement.statement_id) put.homes

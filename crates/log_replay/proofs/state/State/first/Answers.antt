@@ -1,5 +1,8 @@
-use Rattle.std.proofs.Common.{refl, arith, ap, length, Some, subst, ◌≡◌, ◌≤◌}
+use Rattle.std.proofs.Common.{refl, arith, ap, length, subst, ◌≡◌, ◌≤◌}
+use Rattle.policy_rules.specs.declared.documents.Policy.{Policy}
+use Rattle.policy_rules.specs.Spelling.{policy_item}
 use Rattle.log_replay.specs.declared.parts.Header.{Header}
+use Rattle.log_replay.specs.Spelling.{HasBytes}
 use Rattle.log_replay.proofs.Making.{first_made}
 use Rattle.log_replay.proofs.state.State.first.Goals as goal
 
@@ -15,5 +18,6 @@ invariant_of-result c =
       counted = omega (arith, none);
       bounded = omega arith;
       small = omega arith;
+      written = λ x e. (let same : c.args.policy ≡ x = cc in subst (λ (p : Policy). HasBytes (policy_item p)) same c.requires.written);
       made = first_made c.args.header c.args.policy c.new.result.ids c.new.result.homes c.new.result.facts c.new.result.leaves c.requires.policy c.new.ensures.ids c.new.ensures.homes c.new.ensures.facts c.new.ensures.leaves c.requires.made;
     }

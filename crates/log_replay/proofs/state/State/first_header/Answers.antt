@@ -1,4 +1,4 @@
-use Rattle.std.proofs.Common.{◌≡◌, refl, ◌∙◌, ap, sym, Some}
+use Rattle.std.proofs.Common.{refl, ◌∙◌, ap, sym, Some}
 use Rattle.log_replay.specs.Records.{header_record}
 use Rattle.log_replay.specs.Kept.{first_kept}
 use Rattle.log_replay.specs.KeptRows.{with_record}

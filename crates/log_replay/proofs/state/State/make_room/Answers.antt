@@ -16,6 +16,7 @@ invariant_of-self c =
       counted = omega (arith, count, was.counted);
       bounded = was.bounded;
       small = was.small;
+      written = was.written;
       made = lists_made was c.reserve.new.self kept.ids kept.homes kept.facts kept.leaves was.made;
     }
 
@@ -33,5 +34,6 @@ invariant_of-self-2 c =
       counted = omega (arith, count, was.counted);
       bounded = was.bounded;
       small = was.small;
+      written = was.written;
       made = lists_made was c.reserve.new.self kept.ids kept.homes kept.facts kept.leaves was.made;
     }

@@ -1,8 +1,8 @@
-use Rattle.std.proofs.Common.{◌≡◌, Some, None, sym, ◌∙◌}
+use Rattle.std.proofs.Common.{Some, sym}
 use Rattle.log_replay.specs.Records.{reserve_record}
 use Rattle.log_replay.specs.KeptRows.{with_record}
 use Rattle.log_replay.specs.StateSeen.{kept_of}
-use Rattle.log_replay.proofs.Making.{still_stands, takes, leaves_it}
+use Rattle.log_replay.proofs.Making.{still_stands}
 use Rattle.log_replay.proofs.state.State.step_reserve.Goals as goal
 
 pub add_reserve-requires-clause-made : goal.add_reserve-requires-clause-made

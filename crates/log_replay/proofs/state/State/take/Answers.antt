@@ -1,5 +1,4 @@
-use Rattle.std.proofs.Common.{◌≡◌, ◌∙◌, Some, None, sym, ap, refl}
-use Rattle.log_replay.specs.Records.{record_of}
+use Rattle.std.proofs.Common.{◌∙◌, Some, sym, ap, refl}
 use Rattle.log_replay.specs.KeptRows.{failing_kept}
 use Rattle.log_replay.specs.StateSeen.{kept_of}
 use Rattle.log_replay.proofs.Batching.{unread}

@@ -1,4 +1,4 @@
-use Rattle.std.proofs.Common.{◌≡◌, ◌∙◌, ℕ, List, [], ◌∷◌, Some, None, Option, sym, ap, arith}
+use Rattle.std.proofs.Common.{◌≡◌, ◌∙◌, ℕ, List, Some, None, sym, ap, arith}
 use Rattle.cbor_core.specs.Rows.{first_row}
 use Rattle.merkle_tree.specs.Mth.{leaf_hash}
 use Rattle.log_replay.specs.Records.{entry_of}
