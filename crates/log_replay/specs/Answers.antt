@@ -1,5 +1,5 @@
 -- The answers of a log, as byte strings.
-use Rattle.std.specs.Prelude.{◌≡◌, ℕ, ◌+◌, ◌<◌, List, [], ◌∷◌, Option, None, Some, length, nat_lt, nat_le, ◌&&◌, if◌then◌else◌, find, take, slice_get, option_map}
+use Rattle.std.specs.Prelude.{◌≡◌, ℕ, ◌+◌, ◌<◌, ◌≤◌, List, [], ◌∷◌, Option, None, Some, length, nat_lt, nat_le, ◌&&◌, if◌then◌else◌, find, take, slice_get, option_map}
 use Rattle.std.specs.List.{last_or}
 use Rattle.sha2.specs.Sha256.{sha256}
 use Rattle.cbor_core.specs.Exact.{strict_text}
@@ -12,9 +12,11 @@ use Rattle.receipts.specs.declared.receipt.Proof.TheVariants.{Inclusion, Consist
 use Rattle.receipts.specs.Written.{receipt_item}
 use Rattle.policy_rules.specs.Spelling.{policy_item}
 use Rattle.log_replay.specs.declared.parts.Header.{Header}
+use Rattle.log_replay.specs.declared.parts.BatchParts.{BatchParts}
 use Rattle.log_replay.specs.Records.{Log, Entry, Signed, header_of, leaves_of, entries_of, batches_of}
 use Rattle.log_replay.specs.Judging.{in_force}
 use Rattle.log_replay.specs.WellMade.{WellMade}
+use Rattle.log_replay.specs.Growth.{StandsAt}
 
 -- a receipt by the header's name and key and by a Batch's size and signature; its kid is the key's digest
 abbrev pub receipt_with : Header → Signed → Proof → Receipt
@@ -82,3 +84,18 @@ EntryHasBatch = (R : Log) (i : ℕ) → WellMade R → i < length (entries_of R)
 -- and the last Batch is that of the last entry
 abbrev pub LastHasBatch : Type 0
 LastHasBatch = (R : Log) (i : ℕ) → WellMade R → i + 1 ≡ length (entries_of R) → last_batch R ≡ slice_get (batches_of R) i
+
+-- Batch i by what it says
+abbrev pub signed_at : ℕ → BatchParts → Signed
+signed_at i b = record { size = i + 1; index = b.index; signature = b.signature }
+
+-- so the receipt of entry i is by the Batch that holds it
+abbrev pub ReceiptIsOfBatch : Type 0
+ReceiptIsOfBatch = (R : Log) (h : Header) (i n : ℕ) (body leaf : List ℕ) (b : BatchParts) (e : Entry) → WellMade R → header_of R ≡ Some h → StandsAt R i n body leaf b e
+    → receipt_at R i ≡ Some (receipt_with h (signed_at i b) (Inclusion (i + 1) i (path_of i (take (i + 1) (leaves_of R))) e.at e.rule))
+
+-- and a consistency receipt by the Batch of the last entry, with the proof in the tree of all entries
+abbrev pub ConsistencyIsOfLast : Type 0
+ConsistencyIsOfLast = (R : Log) (h : Header) (i n old : ℕ) (body leaf : List ℕ) (b : BatchParts) (e : Entry) → WellMade R → header_of R ≡ Some h → StandsAt R i n body leaf b e
+    → i + 1 ≡ length (entries_of R) → 1 ≤ old → old ≤ i + 1
+    → consistency_at R old ≡ Some (receipt_with h (signed_at i b) (Consistency old (i + 1) (proof_of old (leaves_of R))))

@@ -1,7 +1,7 @@
 // Laws of what is written into a log, and of what a log holds as it grows.
 
 ghost use Rattle.log_replay.specs.Growth.{AdmissibleFits, ReserveFits, HeaderFits, ReserveRises, IndexRises, EntryIsNew, HeaderStays, HeaderIsFirst, EntriesAreLeaves, FewRecords, IsBounded, NoIdTwice, FewerRecords, HeaderIsWithin, EntryHasHome, BatchesAreEntries};
-ghost use Rattle.log_replay.specs.Answers.{EntryHasBatch, LastHasBatch};
+ghost use Rattle.log_replay.specs.Answers.{EntryHasBatch, LastHasBatch, ReceiptIsOfBatch, ConsistencyIsOfLast};
 
 use hss_keys::levels_law;
 
@@ -48,9 +48,11 @@ pub fn home_laws()
     ensures count { BatchesAreEntries }
 {}
 
-/// A law: the Batch that the receipt of entry i names is Batch i, and the last one, which a consistency receipt names, is that of the
-/// last entry.
+/// A law: the Batch that the receipt of entry i names is Batch i, which holds the entry, and the last one, which a consistency receipt
+/// names, is that of the last entry.
 pub fn answer_laws()
     ensures entry { EntryHasBatch }
     ensures last { LastHasBatch }
+    ensures receipt { ReceiptIsOfBatch }
+    ensures consistency { ConsistencyIsOfLast }
 {}
