@@ -24,4 +24,4 @@ pub use parts::{BatchParts, EntryParts, Header};
 pub use reading::{entry_parts, read_batch};
 pub use state::State;
 pub use words::{Failing, Judgement, StepStop, Why};
-pub use writing::{batch_body, entry_bytes, header_body, reserve_body, shape_laws};
+pub use writing::{batch_body, entry_bytes, entry_law, header_body, reserve_body, shape_laws};

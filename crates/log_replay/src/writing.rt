@@ -1,6 +1,6 @@
 // The bodies of records and the bytes of entries.
 
-ghost use Rattle.std.specs.Prelude.{◌≡◌, ℕ, ◌+◌, ◌<◌, ◌≤◌, ◌^◌, List, [], ◌∷◌, length, map, true, All, IfOk};
+ghost use Rattle.std.specs.Prelude.{◌≡◌, ℕ, ◌+◌, ◌<◌, ◌≤◌, ◌^◌, List, [], ◌∷◌, length, map, true, Some, All, IfOk};
 ghost use Rattle.std.specs.Str.{is_utf8};
 ghost use Rattle.cbor_core.specs.Items.{uint_item, bytes_item, text_item, array_item};
 ghost use Rattle.cbor_core.specs.Limits.{most_containers};
@@ -11,10 +11,13 @@ ghost use Rattle.policy_rules.specs.declared.documents.Holder.{Holder};
 ghost use Rattle.policy_rules.specs.Documents.{bootstrap_of};
 ghost use Rattle.policy_rules.specs.Spelling.{holder_item, policy_item};
 ghost use Rattle.log_replay.specs.declared.parts.Header.{Header};
-ghost use Rattle.log_replay.specs.Records.{header_record, reserve_record, batch_record, record_item, level_item, entry_item};
-ghost use Rattle.log_replay.specs.Spelling.{IsWritten, FitsIn, HasBytes, IsBodyOf, IsEntryOf};
+ghost use Rattle.statement.specs.Said.{said_of};
+ghost use Rattle.log_replay.specs.Records.{header_record, reserve_record, batch_record, record_item, level_item, entry_item, entry_of};
+ghost use Rattle.log_replay.specs.Spelling.{IsWritten, FitsIn, HasBytes, IsBodyOf, IsEntryOf, entry_bytes as bytes_of_entry};
+ghost use Rattle.log_replay.specs.Steps.{entry_text};
 ghost use Rattle.log_replay.specs.WellMade.{is_within_limits};
 
+use crate::checked::reads_again;
 use crate::parts::Header;
 use cbor_core::{
     Bytes, EncodeStop, Item, Node, Text, encode, strict_item_by_kind, strict_item_is_exact,
@@ -24,7 +27,7 @@ use hss_keys::Key60;
 use lms_tree::Level;
 use policy_rules::{Holder, Policy, encode as encode_policy};
 use sqlite_items::Items;
-use statement::Blobs;
+use statement::{Blobs, Statement};
 use std::alloc::{AllocError, Global};
 
 /// A law: records, entries and bootstrap policies within the limits have strict bytes, and few enough.
@@ -42,6 +45,17 @@ pub fn shape_laws()
 {
     strict_item_by_kind();
     strict_len_by_kind();
+}
+
+/// A law: the bytes of a statement's entry read as that entry, and the logged form is short enough for them.
+pub fn entry_law(statement: &Statement, at: u64, rule: u16)
+    ensures reads { entry_of (entry_text at rule (said_of statement.now)) ≡ Some (record { at = at; rule = rule; statement = said_of statement.now }) }
+    ensures text { entry_text at rule (said_of statement.now) ≡ bytes_of_entry at rule statement.now.logged }
+    ensures short { length statement.now.logged ≤ 4194304 }
+{
+    shape_laws();
+    strict_items_are_spelled();
+    reads_again(statement);
 }
 
 fn uint(n: u64) -> Item
