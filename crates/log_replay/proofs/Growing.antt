@@ -42,7 +42,7 @@ leaves-more R body r e =
     ap (flat_map entries_in) (records-more R body r e) ∙ flat_map-append entries_in (records_of R) (r ∷ [])
     ∙ ap (λ xs. leaves_of R ++ xs) (append-nil (entries_in r))
 
-reserved-more : (R : Log) (body : List ℕ) (r : Record) → record_of body ≡ Some r → reserved_of (R ++ body ∷ []) ≡ reserved_after (reserved_of R) r
+pub reserved-more : (R : Log) (body : List ℕ) (r : Record) → record_of body ≡ Some r → reserved_of (R ++ body ∷ []) ≡ reserved_after (reserved_of R) r
 reserved-more R body r e = ap (fold reserved_after 0) (records-more R body r e) ∙ fold-append reserved_after 0 (records_of R) (r ∷ [])
 
 pub entries-kept : (R : Log) (body : List ℕ) (r : Record) → record_of body ≡ Some r → entries_in r ≡ [] → entries_of (R ++ body ∷ []) ≡ entries_of R

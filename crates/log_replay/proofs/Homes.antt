@@ -10,10 +10,10 @@ use Rattle.log_replay.specs.declared.parts.BatchParts.{BatchParts}
 use Rattle.log_replay.specs.declared.parts.EntryParts.{EntryParts}
 use Rattle.log_replay.specs.Records.{Log, Record, Entry, Signed, header_record, reserve_record, batch_record, record_of, records_of, one_entry, batch_in, leaves_of, entries_in, entries_of, entry_of, entry_with, parts_of, homes_of, signed_from, batches_of}
 use Rattle.log_replay.specs.WellMade.{WellMade, failing_of}
-use Rattle.log_replay.specs.Growth.{StandsAt, EntryHasHome, BatchesAreEntries}
-use Rattle.log_replay.proofs.Growing.{Adds, grow, grows, records-more, leaves-more, entries-kept, entries-added}
+use Rattle.log_replay.specs.Growth.{StandsAt, EntryHasHome, BatchesAreEntries, ReserveAdds, BatchAdds}
+use Rattle.log_replay.proofs.Growing.{Adds, grow, grows, records-more, leaves-more, reserved-more, entries-kept, entries-added}
 use Rattle.log_replay.proofs.LoggedAgain.{from_then, from_map, logged_says}
-use Rattle.log_replay.proofs.More.{homes-more}
+use Rattle.log_replay.proofs.More.{homes-more, used-more}
 
 -- ---- lists with more behind them
 
@@ -192,3 +192,30 @@ entry_has_home R i w below =
 
 pub batches_are_entries : BatchesAreEntries
 batches_are_entries R w = let all = held R w in (all.batches ∙ sym all.entries, all.homes ∙ sym all.entries)
+
+-- ---- what a log says with one record more
+
+pub reserve_adds : ReserveAdds
+reserve_adds R body upto reads =
+    let r = reserve_record upto in
+    record {
+      leaves = leaves-more R body r reads ∙ append-nil (leaves_of R);
+      entries = entries-kept R body r reads refl;
+      reserved = reserved-more R body r reads;
+      used = used-more R body r reads;
+      homes = homes-more R body (Some r) reads ∙ append-nil (homes_of R);
+      batches = batches-more R body r reads ∙ append-nil (batches_of R);
+    }
+
+pub batch_adds : BatchAdds
+batch_adds R body leaf b e reads one is =
+    let r = batch_record b in
+    let size = length (leaves_of R) in
+    record {
+      leaves = leaves-more R body r reads ∙ ap (λ (xs : List (List ℕ)). leaves_of R ++ xs) one;
+      entries = entries-added R body leaf b e reads one is;
+      reserved = reserved-more R body r reads;
+      used = used-more R body r reads;
+      homes = homes-more R body (Some r) reads ∙ ap (λ (xs : List (List ℕ)). homes_of R ++ map (λ x. length R) xs) one;
+      batches = batches-more R body r reads ∙ ap (λ (xs : List (List ℕ)). batches_of R ++ (record { size = size + length xs; index = b.index; signature = b.signature }) ∷ []) one;
+    }

@@ -1,14 +1,38 @@
 -- What holds of all logs.
-use Rattle.std.specs.Prelude.{◌≡◌, ℕ, ◌+◌, ◌<◌, ◌≤◌, true, List, [], ◌∷◌, ◌++◌, length, min, Some, None, slice_get}
+use Rattle.std.specs.Prelude.{◌≡◌, ℕ, ◌+◌, ◌<◌, ◌≤◌, true, List, [], ◌∷◌, ◌++◌, length, min, max, Some, None, slice_get}
 use Rattle.hss_keys.specs.Levels.{capacity, IsLevels}
 use Rattle.hss_keys.specs.Functions.{hss_verifies, flat_index, names_levels}
 use Rattle.statement.specs.Said.{Said, id_of}
 use Rattle.log_replay.specs.declared.parts.Header.{Header}
 use Rattle.log_replay.specs.declared.parts.BatchParts.{BatchParts}
 use Rattle.log_replay.specs.declared.words.Judgement.TheVariants.{Admit}
-use Rattle.log_replay.specs.Records.{Log, Entry, header_record, reserve_record, batch_record, record_of, batch_in, header_of, leaves_of, entries_of, entry_of, parts_of, homes_of, batches_of, reserved_of, used_of, logged_bytes}
+use Rattle.log_replay.specs.Records.{Log, Entry, Signed, header_record, reserve_record, batch_record, record_of, batch_in, header_of, leaves_of, entries_of, entry_of, parts_of, homes_of, batches_of, reserved_of, used_of, logged_bytes}
 use Rattle.log_replay.specs.Judging.{judge, moment_after}
 use Rattle.log_replay.specs.WellMade.{WellMade, failing_of, header_holds, reserve_holds, text_signed, most_logged_bytes}
+
+-- what a log says with a Reserve more
+pub record AddsReserve (R : Log) (body : List ℕ) (upto : ℕ) : Type 0 where
+  pub leaves : leaves_of (R ++ body ∷ []) ≡ leaves_of R
+  pub entries : entries_of (R ++ body ∷ []) ≡ entries_of R
+  pub reserved : reserved_of (R ++ body ∷ []) ≡ upto
+  pub used : used_of (R ++ body ∷ []) ≡ used_of R
+  pub homes : homes_of (R ++ body ∷ []) ≡ homes_of R
+  pub batches : batches_of (R ++ body ∷ []) ≡ batches_of R
+
+abbrev pub ReserveAdds : Type 0
+ReserveAdds = (R : Log) (body : List ℕ) (upto : ℕ) → record_of body ≡ Some (reserve_record upto) → AddsReserve R body upto
+
+-- and with a Batch of one entry more
+pub record AddsBatch (R : Log) (body leaf : List ℕ) (b : BatchParts) (e : Entry) : Type 0 where
+  pub leaves : leaves_of (R ++ body ∷ []) ≡ leaves_of R ++ leaf ∷ []
+  pub entries : entries_of (R ++ body ∷ []) ≡ entries_of R ++ e ∷ []
+  pub reserved : reserved_of (R ++ body ∷ []) ≡ reserved_of R
+  pub used : used_of (R ++ body ∷ []) ≡ max (used_of R) (b.index + 1)
+  pub homes : homes_of (R ++ body ∷ []) ≡ homes_of R ++ length R ∷ []
+  pub batches : batches_of (R ++ body ∷ []) ≡ batches_of R ++ (record { size = length (leaves_of R) + 1; index = b.index; signature = b.signature }) ∷ []
+
+abbrev pub BatchAdds : Type 0
+BatchAdds = (R : Log) (body leaf : List ℕ) (b : BatchParts) (e : Entry) → record_of body ≡ Some (batch_record b) → b.entries ≡ leaf ∷ [] → entry_of leaf ≡ Some e → AddsBatch R body leaf b e
 
 -- a header stays
 abbrev pub HeaderStays : Type 0

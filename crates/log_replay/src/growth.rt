@@ -1,6 +1,6 @@
 // Laws of what is written into a log, and of what a log holds as it grows.
 
-ghost use Rattle.log_replay.specs.Growth.{AdmissibleFits, ReserveFits, HeaderFits, ReserveRises, IndexRises, EntryIsNew, HeaderStays, HeaderIsFirst, EntriesAreLeaves, FewRecords, IsBounded, NoIdTwice, FewerRecords, HeaderIsWithin, EntryHasHome, BatchesAreEntries};
+ghost use Rattle.log_replay.specs.Growth.{AdmissibleFits, ReserveFits, HeaderFits, ReserveRises, IndexRises, EntryIsNew, HeaderStays, HeaderIsFirst, EntriesAreLeaves, FewRecords, IsBounded, NoIdTwice, FewerRecords, HeaderIsWithin, EntryHasHome, BatchesAreEntries, ReserveAdds, BatchAdds};
 ghost use Rattle.log_replay.specs.Answers.{EntryHasBatch, LastHasBatch, ReceiptIsOfBatch, ConsistencyIsOfLast};
 
 use hss_keys::levels_law;
@@ -31,6 +31,12 @@ pub fn growth_laws()
     ensures few { FewRecords }
     ensures bounds { IsBounded }
     ensures ids { NoIdTwice }
+{}
+
+/// A law: what a log says with a Reserve more, and with a Batch of one entry more.
+pub fn more_laws()
+    ensures reserve { ReserveAdds }
+    ensures batch { BatchAdds }
 {}
 
 /// A law: in a well made log the header keeps its limits, and there are fewer than 2,147,483,648 records.

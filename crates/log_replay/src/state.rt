@@ -108,6 +108,7 @@ impl State {
     /// The header; `None` exactly where there are no records.
     pub fn header(&self) -> Option<&Header>
         ensures header { (R : Log) → StandsFor self.now R → option_copied result ≡ header_of R }
+        ensures kept { option_copied result ≡ (kept_of self.now).header }
     {
         self.header.as_ref()
     }
