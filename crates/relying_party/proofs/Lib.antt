@@ -1,0 +1,13 @@
+pub mod Answering
+pub mod Telling
+pub mod Found
+pub mod ReceiptNames
+pub mod ReceiptRead
+pub mod EntryText
+pub mod OneTrust
+pub mod OneVerdict
+pub mod EntryMeaning
+pub mod GrowthMeaning
+pub mod VerdictMeaning
+pub mod Shortness
+pub mod Accepting

@@ -1,0 +1,10 @@
+pub mod Parties
+pub mod TrustFiles
+pub mod Entries
+pub mod Names
+pub mod Short
+pub mod Accepts
+pub mod Growth
+pub mod Meaning
+pub mod OneAnswer
+pub mod Converse
