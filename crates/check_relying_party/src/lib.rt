@@ -1,0 +1,11 @@
+//! Tests of `relying_party`.
+#![tactic(auto)]
+
+#[cfg(test)]
+mod growth;
+#[cfg(test)]
+mod statements;
+#[cfg(test)]
+mod trust_files;
+#[cfg(test)]
+mod vectors;
