@@ -1,5 +1,6 @@
 use super::message_vectors::{ATTACHED, KEY_SETS};
 use cose_sign1::{Label, Sign1Stop, attach, key_set};
+use statement::parse;
 use std::alloc::Global;
 use std::test::Fail;
 
@@ -74,6 +75,41 @@ fn a_message_has_at_most_4096_receipts(rt: HostRuntime) -> Result<(), Fail> {
     assert_eq!(rt; text.as_str(), wanted.as_str());
     let text = attached(alloc, all.as_slice(), [].as_slice())?;
     assert_eq!(rt; text.as_str(), "BadHeader 394");
+    Ok(())
+}
+
+/// The logged form, the id and the number of receipts of a statement.
+fn kept(alloc: Global, bytes: &[u8]) -> Result<String, Fail> {
+    match parse(alloc, bytes) {
+        Ok(statement) => {
+            let logged = hex::encode(alloc, statement.logged.as_slice())?;
+            let id = hex::encode(alloc, statement.id.as_slice())?;
+            let receipts = statement.receipts.len();
+            Ok(format!(in alloc; "{logged} {id} {receipts}")?)
+        }
+        Err(_) => Err("no statement".into()),
+    }
+}
+
+const BARE: &str = "d28454a301382d0441010fa2016461636d650263706b67a04268694100";
+
+/// SHA-256 of these bytes, by Python's hashlib.
+const ID: &str = "8b5653a76fb53316a0610a48be11fe18c53185d61344fcd1cd530ffebec24ee6";
+
+/// Attaching changes neither what is logged nor the id.
+#[test]
+fn an_attached_statement_has_the_same_id(rt: HostRuntime) -> Result<(), Fail> {
+    let alloc = rt.alloc();
+    let bytes = hex::decode(alloc, BARE)?;
+    let text = kept(alloc, bytes.as_slice())?;
+    let wanted = format!(in alloc; "{BARE} {ID} 0")?;
+    assert_eq!(rt; text.as_str(), wanted.as_str());
+    let receipt = hex::decode(alloc, "aabb")?;
+    let text = attached(alloc, bytes.as_slice(), receipt.as_slice())?;
+    let bytes = hex::decode(alloc, text.as_str())?;
+    let text = kept(alloc, bytes.as_slice())?;
+    let wanted = format!(in alloc; "{BARE} {ID} 1")?;
+    assert_eq!(rt; text.as_str(), wanted.as_str());
     Ok(())
 }
 

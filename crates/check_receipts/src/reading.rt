@@ -52,6 +52,32 @@ fn receipts_are_read_and_refused_so(rt: HostRuntime) -> Result<(), Fail> {
     Ok(())
 }
 
+/// What a receipt says: the name, the size, the proof's numbers, its path's length, and the signature's length.
+fn words(alloc: Global, receipt: &Receipt) -> Result<String, Fail> {
+    let name = receipt.name.as_str();
+    let signature = receipt.signature.len();
+    let proof = match &receipt.proof {
+        Proof::Inclusion {
+            size,
+            index,
+            path,
+            at,
+            rule,
+        } => format!(in alloc; "inclusion {size} {index} {at} {rule} path {}", path.len())?,
+        Proof::Consistency { old, size, path } => {
+            format!(in alloc; "consistency {old} {size} path {}", path.len())?
+        }
+    };
+    Ok(format!(in alloc; "{name} {} {proof} signature {signature}", receipt.size)?)
+}
+
+fn words_of(alloc: Global, bytes: &[u8]) -> Result<String, Fail> {
+    match decode(alloc, bytes) {
+        Ok(receipt) => words(alloc, &receipt),
+        Err(_) => Err("no receipt".into()),
+    }
+}
+
 /// A receipt of 2,768 bytes: the service `log`, two entries, entry 1 by rule 100 at 1,700,000,000, and a signature as long as one of
 /// two levels of H5 and W8, 2,644 bytes.
 #[test]
@@ -66,5 +92,8 @@ fn a_receipt_of_two_levels_has_2768_bytes(rt: HostRuntime) -> Result<(), Fail> {
     assert_eq!(rt; bytes.len(), 2768);
     let text = said(alloc, bytes.as_slice())?;
     assert_eq!(rt; text.as_str(), "ok");
+    let text = words_of(alloc, bytes.as_slice())?;
+    let wanted = "log 2 inclusion 2 1 1700000000 100 path 1 signature 2644";
+    assert_eq!(rt; text.as_str(), wanted);
     Ok(())
 }
