@@ -2,6 +2,8 @@
 
 It prints tables for tests, by the CBOR, LMS and Merkle tree of forms.py.
 """
+import sys
+sys.dont_write_bytecode=True
 from forms import *
 service=Key(bytes(range(32)),bytes(range(16)))
 gov=Key(bytes(range(32,64)),bytes(range(16,32)))

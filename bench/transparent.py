@@ -3,6 +3,8 @@
 It prints tables for tests, by the CBOR, LMS and Merkle tree of forms.py: a service's key of two levels (RFC 8554, 6, codes 5 and 4), whose
 lower tree has a seed of its own, and an issuer's of one.
 """
+import sys
+sys.dont_write_bytecode=True
 from forms import *
 class TwoLevels:
     def __init__(self,seed,I,low_seed,low_I):
