@@ -18,7 +18,9 @@ mod words;
 mod writing;
 
 pub use checked::{Checked, check};
-pub use growth::{answer_laws, fitting_laws, growth_laws, home_laws, limit_laws, record_laws};
+pub use growth::{
+    answer_laws, fitting_laws, growth_laws, home_laws, limit_laws, more_laws, record_laws,
+};
 pub use laws::{log_laws, state_laws};
 pub use parts::{BatchParts, EntryParts, Header};
 pub use reading::{entry_parts, read_batch};
