@@ -1,7 +1,6 @@
 -- What shows an entry, or growth, is accepted.
-use Rattle.std.proofs.Common.{◌≡◌, ℕ, ◌<◌, ◌≤◌, Bool, true, false, not, ◌&&◌, ◌||◌, List, [], ◌∷◌, ◌++◌, length, take, map, Option, Some, None, Ok, refl, sym, ap, ◌∙◌, subst, inl, inr, lt-ltb, le-leb, arith}
-use Rattle.std.specs.Prelude.{◌⊎◌, ◌==◌, nat_lt, nat_le, is_none, find, option_map, option_and_then, unwrap_or, slice_get, if◌then◌else◌}
-use Rattle.std.specs.Str.{bytes_eq}
+use Rattle.std.proofs.Common.{◌≡◌, ℕ, ◌<◌, ◌≤◌, Bool, true, false, not, ◌&&◌, ◌||◌, List, [], ◌∷◌, ◌++◌, length, take, map, Option, Some, None, refl, sym, ap, ◌∙◌, subst, inl, inr, lt-ltb, le-leb}
+use Rattle.std.specs.Prelude.{◌⊎◌, ◌==◌, nat_lt, nat_le, is_none, find, option_map, option_and_then, unwrap_or, slice_get}
 use Rattle.std.specs.List.{list_any}
 use Rattle.std.proofs.lemmas.Bool.{eq-eqb, and_from}
 use Rattle.std.proofs.lemmas.List.{map-append}
@@ -9,7 +8,6 @@ use Rattle.std.proofs.lemmas.List.Folds.{list_any-append}
 use Rattle.std.proofs.lemmas.Option.{slice_get_within}
 use Rattle.std.proofs.lemmas.Slice.Eq.{bytes_eq-Decides}
 use Rattle.cbor_core.specs.Rows.{first_row}
-use Rattle.cose_sign1.specs.Attached.{Attaches}
 use Rattle.cose_sign1.specs.OneTbs.{tbs_of}
 use Rattle.hss_keys.specs.Functions.{hss_verifies}
 use Rattle.merkle_tree.specs.Mth.{leaf_hash, mth}
@@ -22,21 +20,19 @@ use Rattle.statement.specs.Parsed.{StatementOf}
 use Rattle.statement.specs.Said.{Said, said_of, logged_statement, LoggedIsStatement}
 use Rattle.receipts.specs.declared.receipt.Receipt.{Receipt}
 use Rattle.receipts.specs.declared.receipt.Proof.{Proof}
-use Rattle.receipts.specs.declared.receipt.Proof.TheVariants.{Inclusion, Consistency}
 use Rattle.receipts.specs.Form.{receipt_of}
 use Rattle.relying_party.specs.declared.trust.Issuer.{Issuer}
 use Rattle.relying_party.specs.declared.trust.Trust.{Trust}
 use Rattle.relying_party.specs.declared.answers.ReceiptResult.{ReceiptResult}
 use Rattle.relying_party.specs.declared.answers.ReceiptResult.TheVariants.{Accepted, Refused}
-use Rattle.relying_party.specs.declared.answers.ConsistencyResult.{ConsistencyResult}
 use Rattle.relying_party.specs.declared.answers.ConsistencyResult.TheVariants as growth
 use Rattle.relying_party.specs.declared.answers.StatementCheck.{StatementCheck}
 use Rattle.relying_party.specs.declared.answers.StatementCheck.TheVariants.{NoReceipts, IssuerUnknown, IssuerSignature, Fine}
 use Rattle.relying_party.specs.declared.answers.Verdict.{Verdict}
 use Rattle.relying_party.specs.Entries.{entry_bytes}
-use Rattle.relying_party.specs.Accepts.{service_key, signs_root, is_signed, is_issuer, included_by, result_by, receipt_result, is_accepted, issuer_key, is_hss, signs_statement, is_empty, statement_check, is_fine, verdict_with, results_after, verdict_on, Accepts}
-use Rattle.relying_party.specs.Growth.{grown_by, has_old_root, growth_by, consistency_result}
-use Rattle.relying_party.specs.Converse.{ShowsEntry, ShownIsAccepted, IsBelieved, AttachedIsAccepted, ShowsGrowth, GrownIsConsistent}
+use Rattle.relying_party.specs.Accepts.{service_key, is_signed, is_issuer, included_by, result_by, receipt_result, is_accepted, issuer_key, is_hss, signs_statement, is_empty, statement_check, verdict_with, results_after, verdict_on}
+use Rattle.relying_party.specs.Growth.{grown_by, has_old_root, growth_by}
+use Rattle.relying_party.specs.Converse.{ShowsEntry, ShownIsAccepted, IsBelieved, AttachedIsAccepted, GrownIsConsistent}
 use Rattle.relying_party.proofs.OneVerdict.{same_statement, no_both}
 
 -- the tree's laws: a path and a proof lead to the root

@@ -1,6 +1,5 @@
 // Bytes as a trust file.
 
-ghost use Rattle.std.specs.Prelude.{◌≡◌};
 ghost use Rattle.relying_party.specs.TrustFiles.{AnswersAs, Decoded, ReadsItem, trust_in};
 
 use crate::reading::trust_of;

@@ -1,6 +1,6 @@
 // The bytes of the entry that a receipt speaks of.
 
-ghost use Rattle.std.specs.Prelude.{◌≡◌, ℕ, ◌+◌, ◌≤◌, ◌<◌, ◌^◌, length, IfOk};
+ghost use Rattle.std.specs.Prelude.{◌≡◌, ◌+◌, ◌≤◌, ◌<◌, ◌^◌, length, IfOk};
 ghost use Rattle.cbor_core.specs.Head.{head};
 ghost use Rattle.cbor_core.specs.Encoding.{size_of, head_size};
 ghost use Rattle.cose_sign1.specs.Strings.{Writes};

@@ -1,6 +1,6 @@
 // The rules on a receipt of a statement.
 
-ghost use Rattle.std.specs.Prelude.{◌≡◌, ◌≤◌, length, Some, IfOk, option_and_then};
+ghost use Rattle.std.specs.Prelude.{◌≡◌, ◌≤◌, length, Some, IfOk};
 ghost use Rattle.receipts.specs.Form.{receipt_of as receipt_read};
 ghost use Rattle.relying_party.specs.Accepts.{included_by, result_by, receipt_result};
 ghost use Rattle.relying_party.specs.Names.{HasName};

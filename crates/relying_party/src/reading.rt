@@ -1,6 +1,6 @@
 // Trust files, as items spell them.
 
-ghost use Rattle.std.specs.Prelude.{◌≡◌, [], length, IfOk};
+ghost use Rattle.std.specs.Prelude.{◌≡◌, [], IfOk};
 ghost use Rattle.relying_party.specs.TrustFiles.{key_in, service_in, issuer_in, each_onto, list_in, trust_in};
 
 use crate::trust::{Issuer, Service, Trust};

@@ -5,7 +5,6 @@ ghost use Rattle.cbor_core.specs.Limits.{longest_string};
 ghost use Rattle.cose_sign1.specs.OneTbs.{tbs_of};
 ghost use Rattle.cose_sign1.specs.Tbs.{tbs_len as len_of_structure};
 ghost use Rattle.hss_keys.specs.Functions.{hss_verifies};
-ghost use Rattle.receipts.specs.Signed.{signed_text};
 ghost use Rattle.relying_party.specs.Accepts.{signs_root};
 
 use cose_sign1::{sig_structure_is_one, to_be_signed_into, to_be_signed_len};

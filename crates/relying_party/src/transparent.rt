@@ -1,13 +1,12 @@
 // Transparent statements.
 
-ghost use Rattle.std.specs.Prelude.{◌≡◌, IfOk};
-ghost use Rattle.statement.specs.declared.stops.ParseStop.TheVariants.{OutOfMemory};
-ghost use Rattle.relying_party.specs.Accepts.{Accepts, verdict_on as verdict_of_statement, verdict_with};
+ghost use Rattle.std.specs.Prelude.{IfOk};
+ghost use Rattle.relying_party.specs.Accepts.{Accepts};
 ghost use Rattle.relying_party.specs.Meaning.{MeansEntries};
 
 use crate::answers::{StatementCheck, Verdict};
 use crate::judging::verdict_on;
-use crate::laws::{accepted_receipts_mean_entries, verdicts_are_one};
+use crate::laws::accepted_receipts_mean_entries;
 use crate::trust::Trust;
 use cbor_core::strict_spelling_is_unique;
 use cose_sign1::bare_message_is_one;
