@@ -1,0 +1,12 @@
+//! The audit of a log's bytes: whether they hold records that are well made, and if not the first that isn't and why. Nothing is
+//! believed but the bytes.
+#![tactic(auto)]
+
+mod calls;
+mod record;
+mod reports;
+mod walk;
+mod words;
+
+pub use calls::{audit, audit_since};
+pub use words::{AuditStop, Report, Since};
