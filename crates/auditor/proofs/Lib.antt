@@ -1,3 +1,4 @@
 pub mod Records
 pub mod Bad
 pub mod Saying
+pub mod One

@@ -1,3 +1,4 @@
 pub mod Reports
 pub mod Walks
 pub mod Reading
+pub mod Laws

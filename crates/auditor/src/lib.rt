@@ -3,10 +3,12 @@
 #![tactic(auto)]
 
 mod calls;
+mod laws;
 mod record;
 mod reports;
 mod walk;
 mod words;
 
 pub use calls::{audit, audit_since};
+pub use laws::report_laws;
 pub use words::{AuditStop, Report, Since};
