@@ -1,6 +1,10 @@
-//! Tests of the first path: `run_tool` on `root`, `show` and `policy`, over files in memory, and the objects of `scitt_io`.
+//! Tests of the first path: `run_tool` on each command, over files and a key file in memory, and the objects of `scitt_io`.
 #![tactic(auto)]
 
+#[cfg(test)]
+mod attaching;
+#[cfg(test)]
+mod keys;
 #[cfg(test)]
 mod objects;
 #[cfg(test)]

@@ -1,8 +1,11 @@
 //! What the tool answers where the outside refuses a call, and where it gives or takes one byte at a time.
 ghost use Rattle.std.specs.Prelude.{None, ◌≡◌};
 
-use crate::runs::{folder, run, words};
-use scitt_io::{Folder, MemSink, Names, ReadFault, Sink, Source, SureFolder, SureSink, WriteFault};
+use crate::runs::{folder, no_key, run, words};
+use scitt_disk::SureDisk;
+use scitt_io::{
+    Folder, MemSink, Names, ReadFault, Sink, Source, SureFolder, SureSink, SureSource, WriteFault,
+};
 use scitt_tool::run_tool;
 use std::test::Fail;
 
@@ -15,10 +18,13 @@ fn says_that_a_read_failed(rt: HostRuntime) -> Result<(), Fail> {
     for k in 0..5 {
         let mut files = folder(rt.alloc(), &[0x80], &[k])?;
         let mut out = MemSink::new(rt.alloc(), Vec::new(rt.alloc()));
+        let (mut key, mut random) = no_key(rt.alloc());
         let status = run_tool(
             rt.alloc(),
             &words(rt.alloc(), &["root", "f"])?,
             &mut files,
+            &mut key,
+            &mut random,
             &mut out,
         );
         assert_eq!(rt; out.faults(), 0);
@@ -46,10 +52,13 @@ fn says_that_a_file_is_missing(rt: HostRuntime) -> Result<(), Fail> {
 fn ends_where_a_write_failed(rt: HostRuntime) -> Result<(), Fail> {
     let mut files = folder(rt.alloc(), &[0x80], &[])?;
     let mut out = MemSink::new(rt.alloc(), Vec::from_slice(rt.alloc(), &[0])?);
+    let (mut key, mut random) = no_key(rt.alloc());
     let status = run_tool(
         rt.alloc(),
         &words(rt.alloc(), &["root", "f"])?,
         &mut files,
+        &mut key,
+        &mut random,
         &mut out,
     );
     assert_eq!(rt; (status, out.faults()), (4, 1));
@@ -97,10 +106,13 @@ fn writes_a_part_of_the_text(rt: HostRuntime) -> Result<(), Fail> {
             calls,
             faults: 0,
         };
+        let (mut key, mut random) = no_key(rt.alloc());
         let status = run_tool(
             rt.alloc(),
             &words(rt.alloc(), &["root", "f"])?,
             &mut files,
+            &mut key,
+            &mut random,
             &mut out,
         );
         let count = calls.min(EMPTY.len());
@@ -175,10 +187,13 @@ fn reads_a_byte_at_a_time(rt: HostRuntime) -> Result<(), Fail> {
         asked: Names::new(),
     };
     let mut out = MemSink::new(rt.alloc(), Vec::new(rt.alloc()));
+    let (mut key, mut random) = no_key(rt.alloc());
     let status = run_tool(
         rt.alloc(),
         &words(rt.alloc(), &["root", "f"])?,
         &mut files,
+        &mut key,
+        &mut random,
         &mut out,
     );
     assert_eq!(rt; status, 0);
@@ -193,10 +208,14 @@ fn reads_a_byte_at_a_time(rt: HostRuntime) -> Result<(), Fail> {
 fn answers_over_sure_objects(rt: HostRuntime) -> Result<(), Fail> {
     let mut files = SureFolder::new(Vec::new(rt.alloc()));
     let mut out = MemSink::new(rt.alloc(), Vec::new(rt.alloc()));
+    let mut key = SureDisk::new();
+    let mut random = SureSource::new(Vec::new(rt.alloc()));
     let status = run_tool(
         rt.alloc(),
         &words(rt.alloc(), &["root", "f"])?,
         &mut files,
+        &mut key,
+        &mut random,
         &mut out,
     );
     assert_eq!(rt; status, 1);
@@ -208,6 +227,8 @@ fn answers_over_sure_objects(rt: HostRuntime) -> Result<(), Fail> {
         rt.alloc(),
         &words(rt.alloc(), &[])?,
         &mut files,
+        &mut key,
+        &mut random,
         &mut SureSink::new(),
     );
     assert_eq!(rt; status, 2);

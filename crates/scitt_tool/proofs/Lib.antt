@@ -1,5 +1,8 @@
 pub mod Reading
-pub mod Runs
 pub mod Strings
+pub mod Contents
+pub mod Making
+pub mod Attaching
+pub mod Dues
 pub mod OneText
 pub mod SomeText

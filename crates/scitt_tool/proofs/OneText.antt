@@ -1,5 +1,5 @@
 -- Words and files call for one answer: each command's judgement is determined by its file's bytes.
-use Rattle.std.proofs.Common.{◌≡◌, ℕ, ◌++◌, List, [], ◌∷◌, length, map, Bool, Option, Some, None, Result, Ok, Err, inl, inr, refl, sym, ap, ◌∙◌, arith}
+use Rattle.std.proofs.Common.{◌≡◌, ℕ, ◌++◌, List, [], ◌∷◌, length, map, Bool, Option, Some, None, Result, Ok, Err, inl, inr, refl, sym, ap, subst, ◌∙◌, arith}
 use Rattle.std.specs.Prelude.{codes}
 use Rattle.merkle_tree.specs.Mth.{mth}
 use Rattle.cbor_core.specs.declared.words.Grammar.TheVariants.{Strict}
@@ -14,8 +14,19 @@ use Rattle.statement.specs.declared.statement_type.Statement.{Statement}
 use Rattle.statement.specs.declared.stops.ParseStop.{ParseStop}
 use Rattle.statement.specs.OneAnswer.{OneAnswer}
 use Rattle.scitt_tool.specs.Answer.{Answer, done, refused}
-use Rattle.scitt_tool.specs.Command.{Command, Root, Show, Policy, command_of, file_name}
-use Rattle.scitt_tool.specs.Reads.{FileOf, ByFile}
+use Rattle.scitt_tool.specs.Command.{Command, Root, Show, Policy, Keygen, Attach, command_of}
+use Rattle.scitt_tool.specs.Reads.{ByFiles}
+use Rattle.scitt_tool.specs.Outcome.{Outcome}
+use Rattle.scitt_tool.specs.Attach.{AttachOf}
+use Rattle.scitt_tool.specs.Keygen.{KeygenOf}
+use Rattle.lms_tree.specs.declared.types.Level.{Level}
+use Rattle.cose_sign1.specs.declared.sign1.Sign1.{Sign1}
+use Rattle.cose_sign1.specs.declared.stops.Sign1Stop.{Sign1Stop}
+use Rattle.cose_sign1.specs.OneAnswer.{OneAnswer as OneMessage}
+use Rattle.cose_sign1.specs.Sign1Of.{Sign1Of}
+use Rattle.cose_sign1.specs.Attached.{HasRoom, attached_item}
+use Rattle.cbor_core.specs.Spells.{Spells}
+use Rattle.cbor_core.specs.Decoding.{OneStrictSpelling}
 use Rattle.scitt_tool.specs.FaultText.{fault_text}
 use Rattle.cose_sign1.specs.Tbs.{byte_item}
 use Rattle.scitt_tool.specs.Root.{root_lines, strings_item, RootOf}
@@ -27,7 +38,7 @@ use Rattle.policy_rules.specs.declared.documents.PolicyStop.{PolicyStop}
 use Rattle.policy_rules.specs.declared.documents.PolicyStop.TheVariants.{Cbor, BadPolicy}
 use Rattle.policy_rules.specs.OneAnswer.{OneAnswer as OneDocument}
 use Rattle.scitt_tool.specs.Policy.{policy_lines, PolicyTextOf}
-use Rattle.scitt_tool.specs.ToolText.{Judged, CommandText, OneText}
+use Rattle.scitt_tool.specs.ToolText.{first, second, Plain, Judged, CommandText, OneText}
 
 abbrev One : (Answer → Type 0) → Type 0
 One P = (a b : Answer) → P a → P b → a ≡ b
@@ -134,24 +145,78 @@ one_policy one bytes a b (inr (inr p)) (inr (inl q)) = absurd (place_fault q.pla
 one_policy one bytes a b (inr (inr p)) (inr (inr q)) =
     p.is ∙ ap (λ (f : Fault). refused (codes "refused cbor " ++ fault_text f)) (same_fault p.fault q.fault (one bytes (Err (Cbor p.fault)) (Err (Cbor q.fault)) p.first q.first)) ∙ sym q.is
 
--- ---- a command over files
+-- ---- attach
 
-one_file : (P : List ℕ → Answer → Type 0) → ((bytes : List ℕ) → One (P bytes)) → (o : Option (List ℕ)) → One (ByFile P o)
-one_file P each None a b p q = p ∙ sym q
-one_file P each (Some bytes) a b (inl (small, p)) (inl (little, q)) = each bytes a b p q
-one_file P each (Some bytes) a b (inl (small, p)) (inr (long, q)) = absurd (omega (arith, small, long))
-one_file P each (Some bytes) a b (inr (long, p)) (inl (small, q)) = absurd (omega (arith, small, long))
-one_file P each (Some bytes) a b (inr (long, p)) (inr (large, q)) = p ∙ sym q
+same_message : OneMessage → (bytes : List ℕ) (v w : Sign1) → Sign1Of bytes v → Sign1Of bytes w → v ≡ w
+same_message one bytes v w p q =
+    let both : ◌≡◌ {A = Result Sign1 Sign1Stop} (Ok v) (Ok w) = one bytes (Ok v) (Ok w) p q in cc
 
-module _ (never : NeverBoth) (one_item : OneItem) (one_fault : OneWholeFault) (tags : TagStandsFirst) (one : OneAnswer) (document : OneDocument) where
-  one_judged : (command : Command) (bytes : List ℕ) → One (Judged command bytes)
-  one_judged (Root file) bytes = one_root never one_item one_fault bytes
-  one_judged (Show file) bytes = one_show tags one bytes
-  one_judged (Policy file) bytes = one_policy document bytes
+module _ (one : OneAnswer) (message : OneMessage) (spelling : OneStrictSpelling) (bytes receipt : List ℕ) where
+  one_attach : One (AttachOf bytes receipt)
+  one_attach a b (inl p) (inl q) =
+      let same = err_is p.stop q.stop (one bytes (Err p.stop) (Err q.stop) p.first q.first) in
+      p.is ∙ ap (λ (s : ParseStop). refused (codes "refused " ++ stop_text s)) same ∙ sym q.is
+  one_attach a b (inl p) (inr (inl q)) = absurd (ok_err q.statement p.stop (one bytes (Ok q.statement) (Err p.stop) q.parsed p.first))
+  one_attach a b (inl p) (inr (inr (inl q))) = absurd (ok_err q.statement p.stop (one bytes (Ok q.statement) (Err p.stop) q.parsed p.first))
+  one_attach a b (inl p) (inr (inr (inr q))) = absurd (ok_err q.statement p.stop (one bytes (Ok q.statement) (Err p.stop) q.parsed p.first))
+  one_attach a b (inr (inl p)) (inl q) = absurd (ok_err p.statement q.stop (one bytes (Ok p.statement) (Err q.stop) p.parsed q.first))
+  one_attach a b (inr (inl p)) (inr (inl q)) = p.is ∙ sym q.is
+  one_attach a b (inr (inl p)) (inr (inr (inl q))) = let none = p.none in let may = q.may in absurd cc
+  one_attach a b (inr (inl p)) (inr (inr (inr q))) = let none = p.none in let may = q.may in absurd cc
+  one_attach a b (inr (inr (inl p))) (inl q) = absurd (ok_err p.statement q.stop (one bytes (Ok p.statement) (Err q.stop) p.parsed q.first))
+  one_attach a b (inr (inr (inl p))) (inr (inl q)) = let none = q.none in let may = p.may in absurd cc
+  one_attach a b (inr (inr (inl p))) (inr (inr (inl q))) = p.is ∙ sym q.is
+  one_attach a b (inr (inr (inl p))) (inr (inr (inr q))) =
+      let room = subst HasRoom (same_message message bytes q.spelled.0 p.full.0 q.spelled.1 p.full.1) q.spelled.2 in
+      absurd (omega (arith, room, p.full.2))
+  one_attach a b (inr (inr (inr p))) (inl q) = absurd (ok_err p.statement q.stop (one bytes (Ok p.statement) (Err q.stop) p.parsed q.first))
+  one_attach a b (inr (inr (inr p))) (inr (inl q)) = let none = q.none in let may = p.may in absurd cc
+  one_attach a b (inr (inr (inr p))) (inr (inr (inl q))) =
+      let room = subst HasRoom (same_message message bytes p.spelled.0 q.full.0 p.spelled.1 q.full.1) p.spelled.2 in
+      absurd (omega (arith, room, q.full.2))
+  one_attach a b (inr (inr (inr p))) (inr (inr (inr q))) =
+      let same = same_message message bytes p.spelled.0 q.spelled.0 p.spelled.1 q.spelled.1 in
+      let left = subst (λ (v : Sign1). Spells Strict (attached_item v receipt) p.attached) same p.spelled.3.0 in
+      p.is ∙ ap done (spelling _ _ _ left q.spelled.3.0) ∙ sym q.is
 
-  one_command : (o : Option Command) (file_of : FileOf) → One (CommandText o file_of)
-  one_command None file_of a b p q = p ∙ sym q
-  one_command (Some command) file_of a b p q = one_file (Judged command) (one_judged command) (file_of (file_name command)) a b p q
+-- ---- outcomes
+
+abbrev OneOutcome : (Outcome → Type 0) → Type 0
+OneOutcome P = (a b : Outcome) → P a → P b → a ≡ b
+
+one_plain : (P : Answer → Type 0) → One P → OneOutcome (Plain P)
+one_plain P each a b p q = λ i. record { answer = each a.answer b.answer p.0 q.0 i; key = (p.1 ∙ sym q.1) i }
+
+one_keygen : (levels : List Level) (key random : List ℕ) → OneOutcome (KeygenOf (Unit {0}) levels key random)
+one_keygen levels key random a b (inl p) (inl q) = p.is ∙ sym q.is
+one_keygen levels key random a b (inl p) (inr (inl q)) = absurd (omega (arith, p.few, q.enough))
+one_keygen levels key random a b (inl p) (inr (inr q)) = absurd (omega (arith, p.few, q.enough))
+one_keygen levels key random a b (inr (inl p)) (inl q) = absurd (omega (arith, q.few, p.enough))
+one_keygen levels key random a b (inr (inr p)) (inl q) = absurd (omega (arith, q.few, p.enough))
+one_keygen levels key random a b (inr (inl p)) (inr (inl q)) = p.is ∙ sym q.is
+one_keygen levels key random a b (inr (inl p)) (inr (inr q)) = elim (q.none tt) [ inl few ↦ absurd (omega (arith, few, p.six tt)) | inr shut ↦ absurd (shut (p.open_gate tt)) ]
+one_keygen levels key random a b (inr (inr p)) (inr (inl q)) = elim (p.none tt) [ inl few ↦ absurd (omega (arith, few, q.six tt)) | inr shut ↦ absurd (shut (q.open_gate tt)) ]
+one_keygen levels key random a b (inr (inr p)) (inr (inr q)) = p.is ∙ sym q.is
+
+one_files : (J : List (List ℕ) → Outcome → Type 0) → ((read : List (List ℕ)) → OneOutcome (J read)) → (contents : List (Option (List ℕ))) → OneOutcome (ByFiles J contents)
+one_files J each [] a b p q = each [] a b p q
+one_files J each (None ∷ contents) a b p q = p ∙ sym q
+one_files J each (Some bytes ∷ contents) a b (inl (small, p)) (inl (little, q)) = one_files (λ more. J (bytes ∷ more)) (λ more. each (bytes ∷ more)) contents a b p q
+one_files J each (Some bytes ∷ contents) a b (inl (small, p)) (inr (long, q)) = absurd (omega (arith, small, long))
+one_files J each (Some bytes ∷ contents) a b (inr (long, p)) (inl (small, q)) = absurd (omega (arith, small, long))
+one_files J each (Some bytes ∷ contents) a b (inr (long, p)) (inr (large, q)) = p ∙ sym q
+
+module _ (never : NeverBoth) (one_item : OneItem) (one_fault : OneWholeFault) (tags : TagStandsFirst) (one : OneAnswer) (document : OneDocument) (message : OneMessage) (spelling : OneStrictSpelling) where
+  one_judged : (key random : List ℕ) (command : Command) (read : List (List ℕ)) → OneOutcome (Judged (Unit {0}) key random command read)
+  one_judged key random (Root file) read = one_plain (RootOf (first read)) (one_root never one_item one_fault (first read))
+  one_judged key random (Show file) read = one_plain (ShowOf (first read)) (one_show tags one (first read))
+  one_judged key random (Policy file) read = one_plain (PolicyTextOf (first read)) (one_policy document (first read))
+  one_judged key random (Keygen levels) read = one_keygen levels key random
+  one_judged key random (Attach statement receipt) read = one_plain (AttachOf (first read) (second read)) (one_attach one message spelling (first read) (second read))
+
+  one_command : (key random : List ℕ) (o : Option Command) (contents : List (Option (List ℕ))) → OneOutcome (CommandText (Unit {0}) key random o contents)
+  one_command key random None contents a b p q = p ∙ sym q
+  one_command key random (Some command) contents a b p q = one_files (Judged (Unit {0}) key random command) (one_judged key random command) contents a b p q
 
   pub one_text : OneText
-  one_text words file_of a b p q = one_command (command_of words) file_of a b p q
+  one_text key random words contents a b p q = one_command key random (command_of words) contents a b p q

@@ -7,12 +7,12 @@ use Rattle.scitt_io.specs.Files.{ReadsFile}
 use Rattle.scitt_io.specs.Source.{TakesAll}
 use Rattle.scitt_io.specs.declared.source.ReadStop.{ReadStop}
 use Rattle.scitt_io.specs.declared.source.ReadStop.TheVariants.{TooLong, ReadFault, OutOfMemory}
-use Rattle.scitt_tool.specs.Reads.{FileOf, Tells, ReadOf, limit}
+use Rattle.scitt_tool.specs.Reads.{FileOf, TellsFile, ReadOf, limit}
 
--- some files are those that are told, where files are told
-pub some_files : (told : Option FileOf) → (file_of : FileOf) × Tells told file_of
-some_files None = (λ _. None, tt)
-some_files (Some files) = (files, refl)
+-- some content is the one that is told, where files are told
+pub some_content : (told : Option FileOf) (name : List ℕ) → (content : Option (List ℕ)) × TellsFile told name content
+some_content None name = (None, tt)
+some_content (Some file_of) name = (file_of name, refl)
 
 -- an answer's bytes are within the limit
 within_limit : (old new : Option (List ℕ)) (v : Vec ℕ) → TakesAll limit old new (Ok v) → length v.items ≤ limit
@@ -45,6 +45,6 @@ read_untold left new (Err OutOfMemory) takes = tt
 
 pub read_chosen : (told : Option FileOf) (name : List ℕ) (left new : Option (List ℕ)) (result : Result (Vec ℕ) ReadStop)
     → IfSome told (λ file_of. ReadsFile (file_of name) left) → TakesAll limit left new result → IfOk result (λ v. IfSome left (λ bytes. v.items ≡ bytes))
-    → (file_of : FileOf) × Tells told file_of × ReadOf (file_of name) result
-read_chosen None name left new result chosen takes all = (λ _. Some takes.bytes, tt, read_untold left new result takes)
-read_chosen (Some files) name left new result chosen takes all = (files, refl, read_told (files name) left new result chosen takes all)
+    → (content : Option (List ℕ)) × TellsFile told name content × ReadOf content result
+read_chosen None name left new result chosen takes all = (Some takes.bytes, tt, read_untold left new result takes)
+read_chosen (Some files) name left new result chosen takes all = (files name, refl, read_told (files name) left new result chosen takes all)

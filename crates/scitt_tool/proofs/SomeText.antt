@@ -1,7 +1,7 @@
 -- Words and files call for an answer: each command judges all bytes.
-use Rattle.std.proofs.Common.{◌≡◌, ◌≢◌, ℕ, suc, ◌++◌, ◌≤◌, ◌⊎◌, List, [], ◌∷◌, length, map, Option, Some, None, Result, Ok, Err, inl, inr, refl, sym, ap, subst, ◌∙◌}
-use Rattle.std.proofs.lemmas.Bool.{cases_lt}
-use Rattle.std.specs.Prelude.{codes}
+use Rattle.std.proofs.Common.{◌≡◌, ◌≢◌, ℕ, suc, ◌++◌, ◌≤◌, ◌⊎◌, List, [], ◌∷◌, length, map, Option, Some, None, Result, Ok, Err, inl, inr, refl, sym, ap, subst, ◌∙◌, arith}
+use Rattle.std.proofs.lemmas.Bool.{cases_lt, cases_eq}
+use Rattle.std.specs.Prelude.{codes, slice_index}
 use Rattle.merkle_tree.specs.Mth.{mth}
 use Rattle.cbor_core.specs.declared.words.Grammar.TheVariants.{Strict}
 use Rattle.cbor_core.specs.declared.tree.Item.{Item}
@@ -16,8 +16,8 @@ use Rattle.statement.specs.declared.statement_type.Statement.{Statement}
 use Rattle.statement.specs.declared.stops.ParseStop.{ParseStop}
 use Rattle.statement.specs.OneAnswer.{AnswerOf, SomeAnswer}
 use Rattle.scitt_tool.specs.Answer.{Answer, done, refused, words_refused, unread, too_long}
-use Rattle.scitt_tool.specs.Command.{Command, Root, Show, Policy, command_of, file_name}
-use Rattle.scitt_tool.specs.Reads.{FileOf, limit, ByFile}
+use Rattle.scitt_tool.specs.Command.{Command, Root, Show, Policy, Keygen, Attach, command_of}
+use Rattle.scitt_tool.specs.Reads.{limit, ByFiles}
 use Rattle.scitt_tool.specs.FaultText.{fault_text}
 use Rattle.cose_sign1.specs.Tbs.{byte_item}
 use Rattle.scitt_tool.specs.Root.{root_lines, strings_item, RootOf}
@@ -29,7 +29,10 @@ use Rattle.policy_rules.specs.declared.documents.PolicyStop.{PolicyStop}
 use Rattle.policy_rules.specs.declared.documents.PolicyStop.TheVariants.{Cbor, BadPolicy, OutOfMemory}
 use Rattle.policy_rules.specs.OneAnswer.{AnswerOf as DocumentAnswer, SomeAnswer as SomeDocument}
 use Rattle.scitt_tool.specs.Policy.{policy_lines, PolicyTextOf}
-use Rattle.scitt_tool.specs.ToolText.{Judged, CommandText, SomeText}
+use Rattle.scitt_tool.specs.Outcome.{Outcome, Kept, Keyed, plain}
+use Rattle.scitt_tool.specs.Keygen.{KeygenOf, key_bytes, key_lines, public_of, head_from}
+use Rattle.lms_tree.specs.declared.types.Level.{Level}
+use Rattle.scitt_tool.specs.ToolText.{first, Plain, Judged, CommandText, AllBytes, IsNotAttach, NoneAttaches, SomeText}
 
 abbrev Has : (Answer → Type 0) → Type 0
 Has P = (answer : Answer) × P answer
@@ -143,24 +146,60 @@ document_text bytes (Err (BadPolicy place)) p = (refused (codes "refused policy 
 document_text bytes (Err (Cbor fault)) p = (refused (codes "refused cbor " ++ fault_text fault), inr (inr (record { fault = fault; first = p; is = refl })))
 document_text bytes (Err OutOfMemory) p = absurd p
 
+-- ---- outcomes
+
+abbrev HasOutcome : (Outcome → Type 0) → Type 0
+HasOutcome P = (outcome : Outcome) × P outcome
+
+some_plain : (P : Answer → Type 0) → Has P → HasOutcome (Plain P)
+some_plain P found = (record { answer = found.0; key = Kept }, (found.1, refl))
+
+some_key : (levels : List Level) (key random : List ℕ) → key_bytes ≤ length random → HasOutcome (KeygenOf (Unit {0}) levels key random)
+some_key levels key random enough =
+    elim (cases_lt (length key) 6) [
+      | inl few ↦ (record { answer = done (key_lines (public_of (head_from levels random))); key = Keyed (head_from levels random) 0 }, inr (inr (record { enough = enough; none = λ _. inl few; is = refl })))
+      | inr six ↦
+          elim (cases_eq (slice_index key 0) 1) [
+            | inl open_gate ↦ (plain (refused (codes "refused key exists")), inr (inl (record { enough = enough; six = λ _. six; open_gate = λ _. open_gate; is = refl })))
+            | inr shut ↦ (record { answer = done (key_lines (public_of (head_from levels random))); key = Keyed (head_from levels random) 0 }, inr (inr (record { enough = enough; none = λ _. inr shut; is = refl })))
+          ]
+    ]
+
+some_keygen : (levels : List Level) (key random : List ℕ) → HasOutcome (KeygenOf (Unit {0}) levels key random)
+some_keygen levels key random =
+    elim (cases_lt (length random) key_bytes) [
+      | inl few ↦ (plain (refused (codes "refused random ended")), inl (record { few = few; is = refl }))
+      | inr enough ↦ some_key levels key random enough
+    ]
+
+abbrev EachBytes : List (List ℕ) → Type 0
+EachBytes [] = Unit {0}
+EachBytes (bytes ∷ more) = IsBytes bytes × EachBytes more
+
+first_bytes : (read : List (List ℕ)) → EachBytes read → IsBytes (first read)
+first_bytes [] each = λ i. omega arith
+first_bytes (bytes ∷ more) each = each.0
+
+some_files : (J : List (List ℕ) → Outcome → Type 0) → ((read : List (List ℕ)) → EachBytes read → HasOutcome (J read)) → (contents : List (Option (List ℕ))) → AllBytes contents → HasOutcome (ByFiles J contents)
+some_files J each [] fits = each [] tt
+some_files J each (None ∷ contents) fits = (plain unread, refl)
+some_files J each (Some bytes ∷ contents) fits =
+    elim (cases_lt limit (length bytes)) [
+      | inl long ↦ (plain too_long, inr (long, refl))
+      | inr within ↦ (let rest = some_files (λ more. J (bytes ∷ more)) (λ more all. each (bytes ∷ more) (fits.0, all)) contents fits.1 in (rest.0, inl (within, rest.1)))
+    ]
+
 module _ (either : ItemOrFault) (some : SomeAnswer) (document : SomeDocument) where
-  some_judged : (command : Command) (bytes : List ℕ) → IsBytes bytes → Has (Judged command bytes)
-  some_judged (Root file) bytes fits = some_root either bytes fits
-  some_judged (Show file) bytes fits = let found = some bytes fits in shown bytes found.0 found.1
-  some_judged (Policy file) bytes fits = let found = document bytes fits in document_text bytes found.0 found.1
+  some_judged : (key random : List ℕ) (command : Command) → IsNotAttach command → (read : List (List ℕ)) → EachBytes read → HasOutcome (Judged (Unit {0}) key random command read)
+  some_judged key random (Root file) other read each = some_plain (RootOf (first read)) (some_root either (first read) (first_bytes read each))
+  some_judged key random (Show file) other read each = let found = some (first read) (first_bytes read each) in some_plain (ShowOf (first read)) (shown (first read) found.0 found.1)
+  some_judged key random (Policy file) other read each = let found = document (first read) (first_bytes read each) in some_plain (PolicyTextOf (first read)) (document_text (first read) found.0 found.1)
+  some_judged key random (Keygen levels) other read each = some_keygen levels key random
+  some_judged key random (Attach statement receipt) other read each = absurd other
 
-  some_file : (command : Command) (o : Option (List ℕ)) → ((bytes : List ℕ) → o ≡ Some bytes → IsBytes bytes) → Has (ByFile (Judged command) o)
-  some_file command None fits = (unread, refl)
-  some_file command (Some bytes) fits =
-      elim (cases_lt limit (length bytes)) [
-        | inl long ↦ (too_long, inr (long, refl))
-        | inr within ↦ (let judged = some_judged command bytes (fits bytes refl) in (judged.0, inl (within, judged.1)))
-      ]
-
-  some_command : (o : Option Command) (file_of : FileOf) → ((name bytes : List ℕ) → file_of name ≡ Some bytes → IsBytes bytes) → Has (CommandText o file_of)
-  some_command None file_of fits = (words_refused, refl)
-  some_command (Some command) file_of fits =
-      some_file command (file_of (file_name command)) (fits (file_name command))
+  some_command : (key random : List ℕ) (o : Option Command) → NoneAttaches o → (contents : List (Option (List ℕ))) → AllBytes contents → HasOutcome (CommandText (Unit {0}) key random o contents)
+  some_command key random None other contents fits = (plain words_refused, refl)
+  some_command key random (Some command) other contents fits = some_files (Judged (Unit {0}) key random command) (λ read each. some_judged key random command other read each) contents fits
 
   pub some_text : SomeText
-  some_text words file_of fits = some_command (command_of words) file_of fits
+  some_text key random words contents other fits = some_command key random (command_of words) other contents fits

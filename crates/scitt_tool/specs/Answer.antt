@@ -1,5 +1,6 @@
--- What a command answers: a status, and lines of text.
+-- What a command answers: a status, and lines of text, or the bytes of a statement.
 use Rattle.std.specs.Prelude.{◌≡◌, ◌<◌, ℕ, ◌++◌, ◌∷◌, [], List, length, take, codes, ◌⊎◌}
+use Rattle.std.specs.Fmt.{decimal}
 use Rattle.std.specs.Io.KnownBytes.{Appends}
 use Rattle.std.specs.declared.option.Option.{Option}
 use Rattle.scitt_io.specs.Causes.{Rose}
@@ -27,6 +28,14 @@ words_refused = record { status = 2; text = line (codes "words refused") }
 -- a read was refused
 abbrev pub unread : Answer
 unread = record { status = 3; text = line (codes "read fault") }
+
+-- a call of the key file's disk failed
+abbrev pub disk_fault : Answer
+disk_fault = record { status = 6; text = line (codes "disk fault") }
+
+-- no index of the key is left: the next one is the number of all
+abbrev pub exhausted : ℕ → ℕ → Answer
+exhausted next capacity = record { status = 7; text = line (codes "exhausted " ++ decimal next ++ codes " " ++ decimal capacity) }
 
 -- a chosen file is longer than its limit
 abbrev pub too_long : Answer

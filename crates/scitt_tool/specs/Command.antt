@@ -1,30 +1,54 @@
 -- The commands, and the words of each.
-use Rattle.std.specs.Prelude.{ℕ, List, [], ◌∷◌, Option, Some, None, if◌then◌else◌, codes}
+use Rattle.std.specs.Prelude.{ℕ, ◌&&◌, Bool, true, false, List, [], ◌∷◌, Option, Some, None, option_map, if◌then◌else◌, codes}
 use Rattle.std.specs.Str.{bytes_eq}
+use Rattle.lms_tree.specs.declared.types.Level.{Level}
+use Rattle.scitt_tool.specs.LevelNames.{levels_named}
 
 pub data Command : Type 0 where
   Root : (file : List ℕ) → Command
   Show : (file : List ℕ) → Command
   Policy : (file : List ℕ) → Command
+  Keygen : (levels : List Level) → Command
+  Attach : (statement : List ℕ) → (receipt : List ℕ) → Command
+
+-- a name and one argument
+abbrev pub with_one : List ℕ → List ℕ → Option Command
+with_one name a =
+    if bytes_eq name (codes "root") then Some (Root a)
+    else (if bytes_eq name (codes "show") then Some (Show a)
+    else (if bytes_eq name (codes "policy") then Some (Policy a)
+    else (if bytes_eq name (codes "keygen") then option_map Keygen (levels_named a)
+    else None)))
+
+-- a name and two
+abbrev pub with_two : List ℕ → List ℕ → List ℕ → Option Command
+with_two name a b = if bytes_eq name (codes "attach") then Some (Attach a b) else None
 
 -- the command that these words are, exactly
 abbrev pub command_of : List (List ℕ) → Option Command
-command_of [] = None
-command_of (name ∷ []) = None
-command_of (name ∷ file ∷ []) =
-    if bytes_eq name (codes "root") then Some (Root file)
-    else (if bytes_eq name (codes "show") then Some (Show file)
-    else (if bytes_eq name (codes "policy") then Some (Policy file)
-    else None))
-command_of (name ∷ first ∷ second ∷ rest) = None
+command_of (name ∷ a ∷ []) = with_one name a
+command_of (name ∷ a ∷ b ∷ []) = with_two name a b
+command_of _ = None
 
--- the file that a command reads
-abbrev pub file_name : Command → List ℕ
-file_name (Root file) = file
-file_name (Show file) = file
-file_name (Policy file) = file
+-- the files that a command reads, in the order of the words
+abbrev pub files_of : Command → List (List ℕ)
+files_of (Root file) = file ∷ []
+files_of (Show file) = file ∷ []
+files_of (Policy file) = file ∷ []
+files_of (Keygen levels) = []
+files_of (Attach statement receipt) = statement ∷ receipt ∷ []
 
--- the files that words read, in the order of the words: none where they are no command
+-- the files that words read: none where they are no command
 abbrev pub files_read : Option Command → List (List ℕ)
 files_read None = []
-files_read (Some command) = file_name command ∷ []
+files_read (Some command) = files_of command
+
+-- the command uses the key file
+abbrev pub uses_key : Option Command → Bool
+uses_key (Some (Keygen levels)) = true
+uses_key _ = false
+
+-- it takes random bytes
+abbrev pub uses_random : Option Command → Bool
+uses_random (Some (Keygen levels)) = true
+uses_random _ = false

@@ -11,3 +11,9 @@ pub mod Policy
 pub mod ToolText
 pub mod Run
 pub mod Printed
+pub mod LevelNames
+pub mod Outcome
+pub mod Attach
+pub mod Keygen
+pub mod Asking
+pub mod Stopping

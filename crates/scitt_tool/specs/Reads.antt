@@ -1,22 +1,22 @@
--- What is read of a chosen file.
-use Rattle.std.specs.Prelude.{◌≡◌, ◌<◌, ◌≤◌, ◌⊎◌, ℕ, List, length, Option, Some, None, Result, Ok, Err, IfSome}
+-- What is read of chosen files.
+use Rattle.std.specs.Prelude.{◌≡◌, ◌<◌, ◌≤◌, ◌⊎◌, ℕ, List, [], ◌∷◌, length, map, Option, Some, None, Result, Ok, Err, IfSome}
 use Rattle.std.specs.Global.{Vec}
 use Rattle.scitt_io.specs.declared.source.ReadStop.{ReadStop}
 use Rattle.scitt_io.specs.declared.source.ReadStop.TheVariants.{TooLong, ReadFault, OutOfMemory}
-use Rattle.scitt_tool.specs.Answer.{Answer, unread, too_long}
+use Rattle.scitt_tool.specs.Answer.{unread, too_long}
+use Rattle.scitt_tool.specs.Outcome.{Outcome, plain}
 
 -- the file of each name
 abbrev pub FileOf : Type 0
 FileOf = List ℕ → Option (List ℕ)
 
--- these are the files that the folder tells, where it tells them
-abbrev pub Tells : Option FileOf → FileOf → Type 0
-Tells told file_of = IfSome told (λ files. files ≡ file_of)
+-- what a file of this name has, where files are told; none where it is missing
+abbrev pub TellsFile : Option FileOf → List ℕ → Option (List ℕ) → Type 0
+TellsFile told name content = IfSome told (λ file_of. file_of name ≡ content)
 
--- the told file of this name, if files are told and there is one
-abbrev pub told_file : Option FileOf → List ℕ → Option (List ℕ)
-told_file None name = None
-told_file (Some file_of) name = file_of name
+-- the same of each of these names
+abbrev pub TellsFiles : Option FileOf → List (List ℕ) → List (Option (List ℕ)) → Type 0
+TellsFiles told names contents = IfSome told (λ file_of. map file_of names ≡ contents)
 
 -- how long a chosen file may be
 abbrev pub limit : ℕ
@@ -24,13 +24,30 @@ limit = 16777216
 
 -- the file's bytes within the limit, or it is longer; nothing is said of a refused read
 abbrev pub ReadOf : Option (List ℕ) → Result (Vec ℕ) ReadStop → Type 0
-ReadOf file (Ok bytes) = (file ≡ Some bytes.items) × (length bytes.items ≤ limit)
-ReadOf file (Err TooLong) = (bytes : List ℕ) × (file ≡ Some bytes) × (limit < length bytes)
-ReadOf file (Err ReadFault) = Unit {0}
-ReadOf file (Err OutOfMemory) = Unit {0}
+ReadOf content (Ok bytes) = (content ≡ Some bytes.items) × (length bytes.items ≤ limit)
+ReadOf content (Err TooLong) = (bytes : List ℕ) × (content ≡ Some bytes) × (limit < length bytes)
+ReadOf content (Err ReadFault) = Unit {0}
+ReadOf content (Err OutOfMemory) = Unit {0}
 
--- an answer by the bytes of a file: a missing file can't be read, and a longer one than the limit isn't judged
-abbrev pub ByFile : (List ℕ → Answer → Type 0) → Option (List ℕ) → Answer → Type 0
-ByFile Judged None answer = answer ≡ unread
-ByFile Judged (Some bytes) answer =
-    ((length bytes ≤ limit) × Judged bytes answer) ⊎ ((limit < length bytes) × (answer ≡ too_long))
+-- each of these is within the limit
+abbrev pub AllWithin : List (List ℕ) → Type 0
+AllWithin [] = Unit {0}
+AllWithin (bytes ∷ more) = (length bytes ≤ limit) × AllWithin more
+
+-- An outcome by the contents of files in their order: the first that is missing can't be read, the first that is longer than the limit
+-- ends it, and where neither comes it is by the bytes of all.
+abbrev pub ByFiles : (List (List ℕ) → Outcome → Type 0) → List (Option (List ℕ)) → Outcome → Type 0
+ByFiles Judged [] outcome = Judged [] outcome
+ByFiles Judged (None ∷ contents) outcome = outcome ≡ plain unread
+ByFiles Judged (Some bytes ∷ contents) outcome =
+    ((length bytes ≤ limit) × ByFiles (λ read. Judged (bytes ∷ read)) contents outcome) ⊎ ((limit < length bytes) × (outcome ≡ plain too_long))
+
+-- the files were read, each within the limit
+abbrev pub ReadAll : List (Option (List ℕ)) → List (List ℕ) → Type 0
+ReadAll contents read = (contents ≡ map Some read) × AllWithin read
+
+-- the first that isn't within the limit is longer
+abbrev pub StopsAt : List (Option (List ℕ)) → Type 0
+StopsAt [] = ⊥
+StopsAt (None ∷ contents) = ⊥
+StopsAt (Some bytes ∷ contents) = ((length bytes ≤ limit) × StopsAt contents) ⊎ (limit < length bytes)

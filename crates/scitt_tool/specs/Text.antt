@@ -2,8 +2,9 @@
 use Rattle.std.specs.Prelude.{ℕ, List}
 use Rattle.std.specs.String.{string_bytes}
 use Rattle.scitt_tool.specs.declared.answer.Text.{Text}
-use Rattle.scitt_tool.specs.declared.answer.Text.TheVariants.{Fixed, Made}
+use Rattle.scitt_tool.specs.declared.answer.Text.TheVariants.{Fixed, Made, Bytes}
 
 abbrev pub bytes_of : Text → List ℕ
 bytes_of (Fixed text) = text.now
 bytes_of (Made text) = string_bytes text
+bytes_of (Bytes bytes) = bytes

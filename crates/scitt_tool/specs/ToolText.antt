@@ -1,31 +1,66 @@
--- The status and the text that words and files call for.
-use Rattle.std.specs.Prelude.{◌≡◌, ℕ, List, Option, Some, None}
+-- The status and the text that words, files, the key file and random bytes call for, and what the key file is afterwards.
+use Rattle.std.specs.Prelude.{◌≡◌, ℕ, List, [], ◌∷◌, length, Option, Some, None}
 use Rattle.cbor_core.specs.Bytes.{IsBytes}
 use Rattle.scitt_tool.specs.Answer.{Answer, words_refused}
-use Rattle.scitt_tool.specs.Command.{Command, Root, Show, Policy, command_of, file_name}
-use Rattle.scitt_tool.specs.Reads.{FileOf, ByFile}
+use Rattle.scitt_tool.specs.Command.{Command, Root, Show, Policy, Keygen, Attach, command_of, files_read}
+use Rattle.scitt_tool.specs.Outcome.{Outcome, Kept, plain}
+use Rattle.scitt_tool.specs.Reads.{ByFiles}
 use Rattle.scitt_tool.specs.Root.{RootOf}
 use Rattle.scitt_tool.specs.Show.{ShowOf}
 use Rattle.scitt_tool.specs.Policy.{PolicyTextOf}
+use Rattle.scitt_tool.specs.Attach.{AttachOf}
+use Rattle.scitt_tool.specs.Keygen.{KeygenOf}
 
--- what a command answers of the bytes of its file
-abbrev pub Judged : Command → List ℕ → Answer → Type 0
-Judged (Root file) = RootOf
-Judged (Show file) = ShowOf
-Judged (Policy file) = PolicyTextOf
+-- the bytes of the first and of the second file
+abbrev pub first : List (List ℕ) → List ℕ
+first [] = []
+first (bytes ∷ more) = bytes
 
--- what a command answers over these files
-abbrev pub CommandText : Option Command → FileOf → Answer → Type 0
-CommandText None file_of answer = answer ≡ words_refused
-CommandText (Some command) file_of answer = ByFile (Judged command) (file_of (file_name command)) answer
+abbrev pub second : List (List ℕ) → List ℕ
+second [] = []
+second (bytes ∷ more) = first more
 
-abbrev pub ToolText : List (List ℕ) → FileOf → Answer → Type 0
-ToolText words file_of answer = CommandText (command_of words) file_of answer
+-- an answer that leaves the key file as it was
+abbrev pub Plain : (Answer → Type 0) → Outcome → Type 0
+Plain Answers outcome = Answers outcome.answer × (outcome.key ≡ Kept)
 
--- words and files of bytes call for an answer
+-- what a command comes to by the bytes of its files, of the key file, where its disk tells them, and of the random source
+abbrev pub Judged : Type 0 → List ℕ → List ℕ → Command → List (List ℕ) → Outcome → Type 0
+Judged Tells key random (Root file) read = Plain (RootOf (first read))
+Judged Tells key random (Show file) read = Plain (ShowOf (first read))
+Judged Tells key random (Policy file) read = Plain (PolicyTextOf (first read))
+Judged Tells key random (Attach statement receipt) read = Plain (AttachOf (first read) (second read))
+Judged Tells key random (Keygen levels) read = KeygenOf Tells levels key random
+
+abbrev pub CommandText : Type 0 → List ℕ → List ℕ → Option Command → List (Option (List ℕ)) → Outcome → Type 0
+CommandText Tells key random None contents outcome = outcome ≡ plain words_refused
+CommandText Tells key random (Some command) contents outcome = ByFiles (Judged Tells key random command) contents outcome
+
+-- the same of words; the contents are those of the files that the words name, in their order
+abbrev pub ToolText : Type 0 → List ℕ → List ℕ → List (List ℕ) → List (Option (List ℕ)) → Outcome → Type 0
+ToolText Tells key random words contents outcome = CommandText Tells key random (command_of words) contents outcome
+
+-- each of these files, where it is there, has bytes
+abbrev pub AllBytes : List (Option (List ℕ)) → Type 0
+AllBytes [] = Unit {0}
+AllBytes (None ∷ contents) = AllBytes contents
+AllBytes (Some bytes ∷ contents) = IsBytes bytes × AllBytes contents
+
+-- a command is another than `attach`, whose outcome hangs on whether the longer statement has strict bytes
+abbrev pub IsNotAttach : Command → Type 0
+IsNotAttach (Attach statement receipt) = ⊥
+IsNotAttach _ = Unit {0}
+
+abbrev pub NoneAttaches : Option Command → Type 0
+NoneAttaches None = Unit {0}
+NoneAttaches (Some command) = IsNotAttach command
+
+-- words, contents of files, a key file and random bytes call for an outcome, where the command is another than `attach`
 abbrev pub SomeText : Type 0
-SomeText = (words : List (List ℕ)) (file_of : FileOf) → ((name bytes : List ℕ) → file_of name ≡ Some bytes → IsBytes bytes) → (answer : Answer) × ToolText words file_of answer
+SomeText = (key random : List ℕ) (words : List (List ℕ)) (contents : List (Option (List ℕ))) → NoneAttaches (command_of words) → AllBytes contents
+    → (outcome : Outcome) × ToolText (Unit {0}) key random words contents outcome
 
 -- and for no two
 abbrev pub OneText : Type 0
-OneText = (words : List (List ℕ)) (file_of : FileOf) (a b : Answer) → ToolText words file_of a → ToolText words file_of b → a ≡ b
+OneText = (key random : List ℕ) (words : List (List ℕ)) (contents : List (Option (List ℕ))) (a b : Outcome)
+    → ToolText (Unit {0}) key random words contents a → ToolText (Unit {0}) key random words contents b → a ≡ b

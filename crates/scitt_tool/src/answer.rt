@@ -1,13 +1,14 @@
 ghost use Rattle.std.specs.Prelude.{◌≡◌, ◌≤◌, ℕ, List, is_some};
-ghost use Rattle.scitt_tool.specs.Answer.{Says, words_refused, unread, too_long};
+ghost use Rattle.scitt_tool.specs.Answer.{Says, words_refused, unread, too_long, disk_fault};
 
+use cbor_core::Bytes;
 use scitt_io::{Sink, write_all};
 use std::marker::Model;
 
 /// The exit status of the program.
 pub type Status = u8;
 
-/// What a command answers: a status, and lines of text.
+/// What a command answers: a status, and lines of text, or bytes.
 #[derive(Drop)]
 pub(crate) struct Answer {
     status: Status,
@@ -18,6 +19,7 @@ pub(crate) struct Answer {
 enum Text {
     Fixed(&'static str),
     Made(String),
+    Bytes(Bytes),
 }
 
 impl Model for Answer {
@@ -51,6 +53,15 @@ impl Answer {
         }
     }
 
+    pub fn bytes(status: Status, bytes: Bytes) -> Self
+        ensures { result ≡ record { status = status; text = bytes } }
+    {
+        Answer {
+            status,
+            text: Text::Bytes(bytes),
+        }
+    }
+
     /// Writes the text. The answer's status stands where all of it was written, else 4.
     pub fn say<K: Sink>(&self, out: &mut K) -> Status
         ensures says { Says self.now (K.taken out.old) (K.taken out.new) (K.refused out.old) (K.refused out.new) result }
@@ -60,6 +71,7 @@ impl Answer {
         let text = match &self.text {
             Text::Fixed(text) => text.as_bytes(),
             Text::Made(text) => text.as_bytes(),
+            Text::Bytes(bytes) => bytes.as_slice(),
         };
         match write_all(out, text) {
             Ok(()) => self.status,
@@ -87,4 +99,11 @@ pub(crate) fn too_long() -> Answer
     ensures { result ≡ too_long }
 {
     Answer::fixed(8, "too long 16777216\n")
+}
+
+/// A call of the key file's disk failed.
+pub(crate) fn disk_fault() -> Answer
+    ensures { result ≡ disk_fault }
+{
+    Answer::fixed(6, "disk fault\n")
 }

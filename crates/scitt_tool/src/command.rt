@@ -1,44 +1,106 @@
-ghost use Rattle.std.specs.Prelude.{◌≡◌, List, ℕ, Some, None};
-ghost use Rattle.std.specs.Option.{option_map};
-ghost use Rattle.scitt_tool.specs.Command.{command_of, file_name};
+ghost use Rattle.std.specs.Prelude.{◌≡◌, ◌∷◌, [], slice_get};
+ghost use Rattle.std.specs.Option.{option_map, option_copied};
+ghost use Rattle.scitt_tool.specs.Command as said;
 ghost use Rattle.scitt_tool.specs.Meaning.{meaning};
 
+use crate::levels::levels_named;
+use hss_keys::Levels;
 use scitt_io::Words;
 
 /// A command with its arguments.
 #[derive(Drop)]
 pub(crate) enum Command<'a> {
     /// `root FILE`
-    Root { file: &'a str },
+    Root {
+        file: &'a str,
+    },
     /// `show FILE`
-    Show { file: &'a str },
+    Show {
+        file: &'a str,
+    },
     /// `policy FILE`
-    Policy { file: &'a str },
+    Policy {
+        file: &'a str,
+    },
+    /// `keygen LEVELS`
+    Keygen {
+        levels: Levels,
+    },
+    /// `attach STATEMENT RECEIPT`
+    Attach {
+        statement: &'a str,
+        receipt: &'a str,
+    },
 }
 
 impl Command<'_> {
-    /// The file that the command reads.
-    pub fn file(&self) -> &str
-        ensures { result.now ≡ file_name (meaning self.now) }
+    /// The file that the command reads at this place in the order of its words, counted from 0.
+    pub fn file(&self, place: usize) -> Option<&str>
+        ensures { option_copied result ≡ slice_get (said.files_of (meaning self.now)) place }
     {
         match self {
-            Command::Root { file } | Command::Show { file } | Command::Policy { file } => file,
+            Command::Root { file } | Command::Show { file } | Command::Policy { file } => {
+                first(place, file)
+            }
+            Command::Keygen { .. } => None,
+            Command::Attach { statement, receipt } => either(place, statement, receipt),
         }
+    }
+}
+
+fn first(place: usize, file: &str) -> Option<&str>
+    ensures { option_copied result ≡ slice_get (file.now ∷ []) place }
+{
+    match place {
+        0 => Some(file),
+        _ => None,
+    }
+}
+
+fn either<'a>(place: usize, first: &'a str, second: &'a str) -> Option<&'a str>
+    ensures { option_copied result ≡ slice_get (first.now ∷ second.now ∷ []) place }
+{
+    match place {
+        0 => Some(first),
+        1 => Some(second),
+        _ => None,
+    }
+}
+
+fn with_one<'a>(name: &str, word: &'a str) -> Option<Command<'a>>
+    ensures { option_map meaning result ≡ said.with_one name.now word.now }
+{
+    match name {
+        "root" => Some(Command::Root { file: word }),
+        "show" => Some(Command::Show { file: word }),
+        "policy" => Some(Command::Policy { file: word }),
+        "keygen" => {
+            let levels = levels_named(word)?;
+            Some(Command::Keygen { levels })
+        }
+        _ => None,
+    }
+}
+
+fn with_two<'a>(name: &str, first: &'a str, second: &'a str) -> Option<Command<'a>>
+    ensures { option_map meaning result ≡ said.with_two name.now first.now second.now }
+{
+    match name {
+        "attach" => Some(Command::Attach {
+            statement: first,
+            receipt: second,
+        }),
+        _ => None,
     }
 }
 
 /// The command that these words are, exactly.
 pub(crate) fn command_of(words: &Words) -> Option<Command<'_>>
-    ensures { option_map meaning result ≡ command_of words.now }
+    ensures { option_map meaning result ≡ said.command_of words.now }
 {
-    if words.len() != 2 {
-        return None;
-    }
-    let file = words.word(1);
-    match words.word(0) {
-        "root" => Some(Command::Root { file }),
-        "show" => Some(Command::Show { file }),
-        "policy" => Some(Command::Policy { file }),
+    match words.len() {
+        2 => with_one(words.word(0), words.word(1)),
+        3 => with_two(words.word(0), words.word(1), words.word(2)),
         _ => None,
     }
 }

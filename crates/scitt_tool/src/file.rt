@@ -1,8 +1,12 @@
-ghost use Rattle.std.specs.Prelude.{◌≡◌, ◌≤◌, ℕ, List, [], ◌∷◌, ◌++◌, IsErrOf, OnOk, is_some};
+ghost use Rattle.std.specs.Prelude.{◌≡◌, ◌≤◌, ◌⊎◌, ◌+◌, ℕ, List, [], ◌∷◌, ◌++◌, length, take, map, Option, IfOk, IfErr, IsErrOf, OnOk, is_some};
 ghost use Rattle.std.specs.Io.KnownBytes.{IsAtEnd};
 ghost use Rattle.scitt_io.specs.Causes.{Rose};
-ghost use Rattle.scitt_tool.specs.Reads.{FileOf, Tells, ReadOf};
+ghost use Rattle.scitt_tool.specs.Command.{files_of};
+ghost use Rattle.scitt_tool.specs.Meaning.{meaning, all_read};
+ghost use Rattle.scitt_tool.specs.Reads.{TellsFile, TellsFiles, ReadOf, ReadAll, StopsAt};
+ghost use Rattle.scitt_tool.specs.Asking.{AsksFront};
 
+use crate::command::Command;
 use scitt_io::{Folder, ReadStop, read_to_end};
 use std::alloc::Global;
 
@@ -10,12 +14,8 @@ use std::alloc::Global;
 const LIMIT: u64 = 16_777_216;
 
 /// The whole of the named file.
-pub(crate) fn read_file<F: Folder>(
-    alloc: Global,
-    files: &mut F,
-    name: &str,
-) -> Result<Vec<u8>, ReadStop>
-    ensures reads { (file_of : FileOf) × Tells (F.files files.old) file_of × ReadOf (file_of name.now) result }
+fn read_file<F: Folder>(alloc: Global, files: &mut F, name: &str) -> Result<Vec<u8>, ReadStop>
+    ensures reads { (content : Option (List ℕ)) × TellsFile (F.files files.old) name.now content × ReadOf content result }
     ensures end { OnOk result (IsAtEnd (F.left files.new)) }
     ensures fault { IsErrOf result ReadStop.ReadFault → Rose (F.faults files.old) (F.faults files.new) }
     ensures no_fault { (IsErrOf result ReadStop.ReadFault → ⊥) → F.faults files.new ≡ F.faults files.old }
@@ -26,4 +26,34 @@ pub(crate) fn read_file<F: Folder>(
 {
     files.choose(name)?;
     read_to_end(alloc, files, LIMIT)
+}
+
+/// The whole of each of the command's files, in the order of the words. The first that can't be read, or that is longer than the
+/// limit, ends it, and those behind it aren't asked for.
+pub(crate) fn read_files<F: Folder>(
+    alloc: Global,
+    files: &mut F,
+    command: &Command<'_>,
+) -> Result<Vec<Vec<u8>>, ReadStop>
+    ensures reads { IfOk result (λ read. (contents : List (Option (List ℕ)))
+        × TellsFiles (F.files files.old) (files_of (meaning command.now)) contents × ReadAll contents (all_read read.items)) }
+    ensures stops { IsErrOf result ReadStop.TooLong → (contents : List (Option (List ℕ)))
+        × TellsFiles (F.files files.old) (files_of (meaning command.now)) contents × StopsAt contents }
+    ensures end { OnOk result ((files_of (meaning command.now) ≡ []) ⊎ IsAtEnd (F.left files.new)) }
+    ensures fault { IsErrOf result ReadStop.ReadFault → Rose (F.faults files.old) (F.faults files.new) }
+    ensures no_fault { (IsErrOf result ReadStop.ReadFault → ⊥) → F.faults files.new ≡ F.faults files.old }
+    ensures later { F.faults files.old ≤ F.faults files.new }
+    ensures kept { F.files files.new ≡ F.files files.old }
+    ensures telling { is_some (F.left files.new) ≡ is_some (F.left files.old) }
+    ensures asked { OnOk result (F.asked files.new ≡ F.asked files.old ++ files_of (meaning command.now)) }
+    ensures asked_front { AsksFront (files_of (meaning command.now)) (F.asked files.old) (F.asked files.new) }
+{
+    let mut read = Vec::new(alloc);
+    while let Some(name) = command.file(read.len()) {
+        let bytes = read_file(alloc, files, name)?;
+        let Ok(()) = read.push(bytes) else {
+            return Err(ReadStop::OutOfMemory);
+        };
+    }
+    Ok(read)
 }

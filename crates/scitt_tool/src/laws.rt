@@ -1,17 +1,20 @@
 ghost use Rattle.scitt_tool.specs.ToolText.{OneText, SomeText};
 
-use cbor_core::whole_bytes_have_one_answer;
-use cose_sign1::tag_stands_first;
+use cbor_core::{strict_spelling_is_unique, whole_bytes_have_one_answer};
+use cose_sign1::{messages_have_one_answer, tag_stands_first};
 use policy_rules::documents_have_one_answer;
 use statement::statements_have_one_answer;
 
-/// A law: words and files call for one status and one text, and for no other.
+/// A law: words, files, a key file and random bytes call for at most one status, text and key file afterwards, and where the
+/// command is another than `attach`, for one.
 pub fn words_and_files_have_one_text()
     ensures some { SomeText }
     ensures one { OneText }
 {
     whole_bytes_have_one_answer();
     tag_stands_first();
+    messages_have_one_answer();
+    strict_spelling_is_unique();
     statements_have_one_answer();
     documents_have_one_answer();
 }

@@ -2,17 +2,23 @@
 #![tactic(auto)]
 
 mod answer;
+mod attach;
 mod command;
+mod ended;
 mod fault;
 mod file;
+mod keygen;
 mod laws;
+mod levels;
 mod lines;
 mod policy;
 mod printed;
+mod random;
 mod root;
 mod run;
 mod show;
 mod stop;
+mod stops;
 
 pub use answer::Status;
 pub use laws::words_and_files_have_one_text;

@@ -1,23 +1,22 @@
-use Rattle.std.proofs.Common.{◌≡◌, ℕ, Option, subst, inl, refl, ap, arith}
-use Rattle.scitt_tool.specs.Answer.{Answer}
-use Rattle.scitt_tool.specs.Command.{Command}
-use Rattle.scitt_tool.specs.ToolText.{CommandText}
-use Rattle.scitt_tool.proofs.Reading.{some_files}
+use Rattle.std.proofs.Common.{◌≡◌, ℕ, Err, List, refl, sym, ap, subst}
+use Rattle.std.specs.Global.{Vec}
+use Rattle.scitt_tool.specs.Meaning.{meaning, all_read}
+use Rattle.scitt_tool.specs.Reads.{ReadAll}
+use Rattle.scitt_tool.proofs.Dues.{due_refused, due_too_long, due_judged}
 use Rattle.scitt_tool.proofs.run.answer.Goals as goal
 
-pub returns-in-None-clause-due : goal.returns-in-None-clause-due
-returns-in-None-clause-due g c =
-    let files = some_files (g.F.Folder.files c.args.files.now) in
-    let two : c.words_refused.result.status ≡ 2 = ap (λ (a : Answer). a.status) c.words_refused.ensures in
-    let text = subst (λ (command : Option Command). CommandText command files.0 c.words_refused.result) c.in-None.ensures c.words_refused.ensures in
-    let before : ℕ = g.F.Source.faults c.args.files.now in
-    let kept : before ≡ before = refl in (
-      files.0,
-      files.1,
-      record {
-        text = inl text;
-        later = omega arith;
-        fault = λ three. absurd (omega (arith, two, three));
-        calm = λ _. refl;
-      },
-    )
+pub returns-in_default-clause-due : goal.returns-in_default-clause-due
+returns-in_default-clause-due g c =
+    due_refused _ _ c.args.words.now _ _ _ (sym c.in_default.ensures) refl refl refl refl c.words_refused.ensures
+
+pub returns-in-Ok-clause-due : goal.returns-in-Ok-clause-due
+returns-in-Ok-clause-due g c =
+    let reads = c.in-Ok.ensures.reads in
+    due_judged _ _ c.args.words.now (meaning c.in-Some.command) _ _ (sym c.in-Some.ensures) reads.0 (all_read c.deref.result.now) c.judge.result c.stopped.result reads.1
+    (subst (λ (items : List (Vec ℕ)). ReadAll reads.0 (all_read items)) (sym c.deref.ensures.value) reads.2) c.judge.ensures.judged c.judge.ensures.status (c.in-Ok.ensures.no_fault (λ e. cc))
+    c.judge.ensures.random_counts c.judge.ensures.key_counts c.stopped.ensures
+
+pub returns-in-Err-TooLong-clause-due : goal.returns-in-Err-TooLong-clause-due
+returns-in-Err-TooLong-clause-due g c =
+    let stops = c.in-Err-TooLong.ensures.stops (ap Err c.in-Err-TooLong.field-0-is) in
+    due_too_long _ _ c.args.words.now (meaning c.in-Some.command) stops.0 _ _ _ (sym c.in-Some.ensures) stops.1 stops.2 refl (c.in-Err-TooLong.ensures.no_fault (λ e. cc)) refl refl c.too_long.ensures

@@ -1,0 +1,21 @@
+use Rattle.std.proofs.Common.{refl}
+use Rattle.scitt_tool.proofs.Dues.{plain_over}
+use Rattle.scitt_tool.proofs.run.judge.Goals as goal
+
+pub returns-in_ok-root-in-Root-clause-judged : goal.returns-in_ok-root-in-Root-clause-judged
+returns-in_ok-root-in-Root-clause-judged g c =
+    rw c.in-Root.is (plain_over _ _ _ _ _ _ (λ key random. (rw c.first.ensures at c.in_ok-root-in-Root.ensures, refl)))
+
+pub returns-in_ok-show-in-Show-clause-judged : goal.returns-in_ok-show-in-Show-clause-judged
+returns-in_ok-show-in-Show-clause-judged g c =
+    rw c.in-Show.is (plain_over _ _ _ _ _ _ (λ key random. (rw c.first-in-Show.ensures at c.in_ok-show-in-Show.ensures, refl)))
+
+pub returns-in_ok-policy-in-Policy-clause-judged :
+    goal.returns-in_ok-policy-in-Policy-clause-judged
+returns-in_ok-policy-in-Policy-clause-judged g c =
+    rw c.in-Policy.is (plain_over _ _ _ _ _ _ (λ key random. (rw c.first-in-Policy.ensures at c.in_ok-policy-in-Policy.ensures, refl)))
+
+pub returns-in_ok-attach-in-Attach-clause-judged :
+    goal.returns-in_ok-attach-in-Attach-clause-judged
+returns-in_ok-attach-in-Attach-clause-judged g c =
+    rw c.in-Attach.is (plain_over _ _ _ _ _ _ (λ key random. (rw (c.first-in-Attach.ensures, c.second.ensures) at c.in_ok-attach-in-Attach.ensures, refl)))
