@@ -1,16 +1,16 @@
 -- What there is to answer, from what the parts of a run answer.
-use Rattle.std.proofs.Common.{◌≡◌, ◌≢◌, ◌≤◌, ◌⊎◌, ℕ, List, [], ◌∷◌, length, map, Option, Some, None, Result, Ok, Err, IfOk, IfSome, inl, inr, refl, sym, ap, ◌∙◌, subst, arith}
+use Rattle.std.proofs.Common.{◌≡◌, ◌≢◌, ◌≤◌, ◌⊎◌, ℕ, List, [], Option, Some, None, Result, Ok, Err, IfOk, IfSome, inl, inr, refl, sym, ap, subst, arith}
 use Rattle.std.specs.Prelude.{IsSome}
 use Rattle.scitt_io.specs.Causes.{Rose}
 use Rattle.scitt_disk.specs.Images.{Held}
 use Rattle.scitt_tool.specs.declared.stops.ToolStop.{ToolStop}
 use Rattle.scitt_tool.specs.declared.stops.ToolStop.TheVariants.{ReadFault, DiskFault, OutOfMemory}
-use Rattle.scitt_tool.specs.Answer.{Answer, words_refused, unread, too_long, disk_fault}
+use Rattle.scitt_tool.specs.Answer.{Answer, words_refused, unread, too_long}
 use Rattle.scitt_tool.specs.Command.{Command, command_of, files_of, files_read}
 use Rattle.scitt_tool.specs.Outcome.{Outcome, Kept, plain}
 use Rattle.scitt_tool.specs.Reads.{FileOf, TellsFiles, ReadAll, StopsAt, ByFiles}
-use Rattle.scitt_tool.specs.ToolText.{Judged, CommandText, ToolText}
-use Rattle.scitt_tool.specs.Run.{Counts, Outside, HasCauses, JudgedOver, IsText, IsDue}
+use Rattle.scitt_tool.specs.ToolText.{Judged, CommandText}
+use Rattle.scitt_tool.specs.Run.{Counts, Outside, HasCauses, JudgedOver, IsDue}
 use Rattle.scitt_tool.specs.Stopping.{Stopped, CountsRandom, CountsKey}
 use Rattle.scitt_tool.proofs.Contents.{by_all, by_stop}
 

@@ -1,5 +1,5 @@
 -- The commands, and the words of each.
-use Rattle.std.specs.Prelude.{ℕ, ◌&&◌, Bool, true, false, List, [], ◌∷◌, Option, Some, None, option_map, if◌then◌else◌, codes}
+use Rattle.std.specs.Prelude.{ℕ, Bool, true, false, List, [], ◌∷◌, Option, Some, None, option_map, if◌then◌else◌, codes}
 use Rattle.std.specs.Str.{bytes_eq}
 use Rattle.lms_tree.specs.declared.types.Level.{Level}
 use Rattle.scitt_tool.specs.LevelNames.{levels_named}

@@ -1,12 +1,12 @@
 -- A run of the tool: what it was to answer, and what it wrote.
-use Rattle.std.specs.Prelude.{◌≡◌, ◌≢◌, ◌⊎◌, ◌≤◌, ◌++◌, ℕ, List, length, map, Some, IsSome, IfSome, take}
+use Rattle.std.specs.Prelude.{◌≡◌, ◌≢◌, ◌⊎◌, ℕ, List, map, Some, IsSome, IfSome}
 use Rattle.std.specs.declared.option.Option.{Option}
 use Rattle.std.specs.Io.KnownBytes.{Appends}
 use Rattle.scitt_io.specs.Causes.{Rose}
 use Rattle.scitt_disk.specs.Images.{Held}
 use Rattle.scitt_tool.specs.Answer.{Answer, Says, unread, disk_fault}
 use Rattle.scitt_tool.specs.Command.{Command, command_of, files_of, files_read}
-use Rattle.scitt_tool.specs.Outcome.{Outcome, KeyAfter, KeyIs}
+use Rattle.scitt_tool.specs.Outcome.{KeyAfter, KeyIs}
 use Rattle.scitt_tool.specs.Reads.{FileOf, TellsFiles, ReadAll}
 use Rattle.scitt_tool.specs.ToolText.{Judged, ToolText}
 
@@ -60,3 +60,15 @@ pub record Answers (Tells : Type 0) (outside : Outside) (words : List (List ℕ)
   pub answer : Answer
   pub due : IsDue Tells outside words before now answer
   pub says : Says answer old new out_before out_now status
+
+-- none of the counts rose
+abbrev pub NoneRose : Counts → Counts → Type 0
+NoneRose before now = (¬ Rose before.files now.files) × (¬ Rose before.random now.random) × (¬ Rose before.key now.key)
+
+-- A command whose files are told, each of them there and within the limit, where no count rises: the status and the text are by the
+-- bytes alone (those of the files, of the key file and of the random source), unless memory is wanting.
+abbrev pub Completes : Type 0 → Outside → List (List ℕ) → Counts → Counts → Option (List ℕ) → Option (List ℕ) → ℕ → ℕ → ℕ → Type 0
+Completes Tells outside words before now old new out_before out_now status =
+    (command : Command) (file_of : FileOf) (read : List (List ℕ)) → command_of words ≡ Some command → outside.files ≡ Some file_of → ReadAll (map file_of (files_of command)) read
+    → NoneRose before now → ¬ Rose out_before out_now
+    → (status ≡ 5) ⊎ ((answer : Answer) × JudgedOver Tells outside.old outside.new outside.random command read answer × (status ≡ answer.status) × Appends old new answer.text)

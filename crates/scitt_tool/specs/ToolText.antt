@@ -1,8 +1,8 @@
 -- The status and the text that words, files, the key file and random bytes call for, and what the key file is afterwards.
-use Rattle.std.specs.Prelude.{◌≡◌, ℕ, List, [], ◌∷◌, length, Option, Some, None}
+use Rattle.std.specs.Prelude.{◌≡◌, ℕ, List, [], ◌∷◌, Option, Some, None}
 use Rattle.cbor_core.specs.Bytes.{IsBytes}
 use Rattle.scitt_tool.specs.Answer.{Answer, words_refused}
-use Rattle.scitt_tool.specs.Command.{Command, Root, Show, Policy, Keygen, Attach, command_of, files_read}
+use Rattle.scitt_tool.specs.Command.{Command, Root, Show, Policy, Keygen, Attach, command_of}
 use Rattle.scitt_tool.specs.Outcome.{Outcome, Kept, plain}
 use Rattle.scitt_tool.specs.Reads.{ByFiles}
 use Rattle.scitt_tool.specs.Root.{RootOf}

@@ -5,7 +5,7 @@ ghost use Rattle.scitt_tool.specs.Asking.{AsksFront};
 ghost use Rattle.scitt_tool.specs.Command.{command_of, files_of, files_read, uses_key, uses_random};
 ghost use Rattle.scitt_tool.specs.Meaning.{meaning, all_read};
 ghost use Rattle.scitt_tool.specs.ToolText.{first as first_read, second as second_read, Judged};
-ghost use Rattle.scitt_tool.specs.Run.{Answers, IsDue, JudgedOver};
+ghost use Rattle.scitt_tool.specs.Run.{Answers, Completes, IsDue, JudgedOver};
 ghost use Rattle.scitt_tool.specs.Stopping.{Stopped, CountsRandom, CountsKey};
 
 use crate::answer::{Answer, Status, disk_fault, too_long, unread, words_refused};
@@ -67,6 +67,11 @@ pub fn run_tool<F: Folder, D: Disk, S: Source, K: Sink>(
     ensures no_write_fault { result ≢ 4 → K.refused out.new ≡ K.refused out.old }
     ensures out_later { K.refused out.old ≤ K.refused out.new }
     ensures read_whole { result ≡ 0 → (files_read (command_of words.now) ≡ []) ⊎ IsAtEnd (F.left files.new) }
+    ensures complete { Completes (IsTrue D.tells)
+        (record { files = F.files files.old; random = S.left random.old; old = D.held key.old; new = D.held key.new }) words.now
+        (record { files = F.faults files.old; random = S.faults random.old; key = D.fault_count key.old })
+        (record { files = F.faults files.new; random = S.faults random.new; key = D.fault_count key.new })
+        (K.taken out.old) (K.taken out.new) (K.refused out.old) (K.refused out.new) result }
     ensures no_key { uses_key (command_of words.now) ≡ false → key.new ≡ key.old }
     ensures no_random { uses_random (command_of words.now) ≡ false → random.new ≡ random.old }
     ensures strays { IsTrue D.tells → D.strays key.new ≡ D.strays key.old }

@@ -1,4 +1,4 @@
-use Rattle.std.proofs.Common.{◌≡◌, ℕ, Err, List, refl, sym, ap, subst}
+use Rattle.std.proofs.Common.{ℕ, Err, List, refl, sym, ap, subst}
 use Rattle.std.specs.Global.{Vec}
 use Rattle.scitt_tool.specs.Meaning.{meaning, all_read}
 use Rattle.scitt_tool.specs.Reads.{ReadAll}
