@@ -30,7 +30,7 @@ pub fn status_of<F: Folder, D: Disk + Drop, S: Source, K: Sink>(
         (record { files = F.files files.old; random = S.left random.old; old = D.held disk; new = D.held after }) given
         (record { files = F.faults files.old; random = S.faults random.old; key = D.fault_count disk })
         (record { files = F.faults files.new; random = S.faults random.new; key = D.fault_count after })
-        (K.taken out.old) (K.taken out.new) (K.refused out.old) (K.refused out.new) result)) }
+        (F.asked files.old) (F.asked files.new) (K.taken out.old) (K.taken out.new) (K.refused out.old) (K.refused out.new) result)) }
     ensures no_memory { IfOk words (λ _. result ≡ 5 → K.taken out.new ≡ K.taken out.old) }
     ensures asked { IfOk words (λ given. AsksFront (files_read (command_of given)) (F.asked files.old) (F.asked files.new)) }
 {

@@ -1,5 +1,5 @@
 -- A run of the tool: what it was to answer, and what it wrote.
-use Rattle.std.specs.Prelude.{◌≡◌, ◌≢◌, ◌⊎◌, ℕ, List, map, Some, IsSome, IfSome}
+use Rattle.std.specs.Prelude.{◌≡◌, ◌≢◌, ◌⊎◌, ◌++◌, ℕ, List, map, Some, IsSome, IfSome}
 use Rattle.std.specs.declared.option.Option.{Option}
 use Rattle.std.specs.Io.KnownBytes.{Appends}
 use Rattle.scitt_io.specs.Causes.{Rose}
@@ -55,10 +55,13 @@ pub record IsDue (Tells : Type 0) (outside : Outside) (words : List (List ℕ)) 
   pub text : IsText Tells outside words answer ⊎ (IsSome (command_of words) × ((answer ≡ unread) ⊎ (answer ≡ disk_fault)))
   pub causes : HasCauses before now answer.status
 
--- What was written before and after, the sink's count before and after, and the status: what there was to answer was said.
-pub record Answers (Tells : Type 0) (outside : Outside) (words : List (List ℕ)) (before now : Counts) (old new : Option (List ℕ)) (out_before out_now : ℕ) (status : ℕ) : Type 0 where
+-- What was asked of the folder before and after, what was written before and after, the sink's count before and after, and the status:
+-- what there was to answer was said. All of the command's files were asked for, in order, unless a read fault or a file that is too long
+-- was to be answered.
+pub record Answers (Tells : Type 0) (outside : Outside) (words : List (List ℕ)) (before now : Counts) (asked_before asked_now : List (List ℕ)) (old new : Option (List ℕ)) (out_before out_now : ℕ) (status : ℕ) : Type 0 where
   pub answer : Answer
   pub due : IsDue Tells outside words before now answer
+  pub asked : answer.status ≢ 3 → answer.status ≢ 8 → asked_now ≡ asked_before ++ files_read (command_of words)
   pub says : Says answer old new out_before out_now status
 
 -- none of the counts rose

@@ -49,7 +49,7 @@ pub fn run_tool<F: Folder, D: Disk, S: Source, K: Sink>(
         (record { files = F.files files.old; random = S.left random.old; old = D.held key.old; new = D.held key.new }) words.now
         (record { files = F.faults files.old; random = S.faults random.old; key = D.fault_count key.old })
         (record { files = F.faults files.new; random = S.faults random.new; key = D.fault_count key.new })
-        (K.taken out.old) (K.taken out.new) (K.refused out.old) (K.refused out.new) result }
+        (F.asked files.old) (F.asked files.new) (K.taken out.old) (K.taken out.new) (K.refused out.old) (K.refused out.new) result }
     ensures no_memory { result ≡ 5 → K.taken out.new ≡ K.taken out.old }
     ensures words_refused { command_of words.now ≡ None → (result ≡ 2) ⊎ (result ≡ 4) }
     ensures only_words { result ≡ 2 → command_of words.now ≡ None }
