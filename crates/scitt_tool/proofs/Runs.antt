@@ -1,5 +1,5 @@
 -- What a run of the tool comes to where nothing outside fails.
-use Rattle.std.proofs.Common.{◌≡◌, ℕ, List, [], ◌∷◌, map, Some, inl, inr, sym, ◌∙◌, ap, subst, arith}
+use Rattle.std.proofs.Common.{◌≡◌, ℕ, List, [], ◌∷◌, map, Some, None, inl, inr, refl, sym, ◌∙◌, ap, subst, arith}
 use Rattle.std.proofs.lemmas.List.{take_all}
 use Rattle.std.specs.declared.option.Option.{Option}
 use Rattle.std.specs.Io.KnownBytes.{Appends}
@@ -7,7 +7,7 @@ use Rattle.scitt_io.specs.Causes.{Rose}
 use Rattle.scitt_tool.specs.Answer.{Answer, Says}
 use Rattle.scitt_tool.specs.Command.{Command, command_of, files_of, files_read}
 use Rattle.scitt_tool.specs.Outcome.{Outcome}
-use Rattle.scitt_tool.specs.Reads.{FileOf, TellsFiles, AllWithin, ByFiles, ReadAll}
+use Rattle.scitt_tool.specs.Reads.{FileOf, TellsFiles, AllWithin, ByFiles, ReadAll, Finds}
 use Rattle.scitt_tool.specs.ToolText.{CommandText, Judged}
 use Rattle.scitt_tool.specs.Run.{Counts, Outside, NoneRose, JudgedOver, IsText, IsDue, Completes}
 
@@ -17,21 +17,24 @@ judged_by_all Judged [] outcome all by = by
 judged_by_all Judged (bytes ∷ read) outcome all (inl (short, by)) = judged_by_all (λ more. Judged (bytes ∷ more)) read outcome all.1 by
 judged_by_all Judged (bytes ∷ read) outcome all (inr (long, is)) = absurd (omega (arith, long, all.0))
 
--- the told files are those that were judged
-told_are : (told : Option FileOf) (file_of : FileOf) (names : List (List ℕ)) (contents : List (Option (List ℕ))) → told ≡ Some file_of → TellsFiles told names contents → contents ≡ map file_of names
-told_are told file_of names contents is tells = sym (subst (λ (t : Option FileOf). TellsFiles t names contents) is tells)
+-- the files that were found are those that were judged
+found_are : (told : Option FileOf) (names : List (List ℕ)) (contents : List (Option (List ℕ))) (read : List (List ℕ)) → (names ≡ [] → contents ≡ []) → TellsFiles told names contents → Finds told names read → ReadAll contents read
+found_are told [] contents read none tells found = (none refl ∙ ap (map Some) (sym found), subst AllWithin (sym found) tt)
+found_are None (name ∷ names) contents read none tells found = absurd found
+found_are (Some file_of) (name ∷ names) contents read none tells found = (sym tells ∙ found.0, found.1)
 
-module _ (Tells : Type 0) (outside : Outside) (words : List (List ℕ)) (command : Command) (file_of : FileOf) (read : List (List ℕ)) (answer : Answer)
-    (is : command_of words ≡ Some command) (told : outside.files ≡ Some file_of) (all : ReadAll (map file_of (files_of command)) read) where
+module _ (Tells : Type 0) (outside : Outside) (words : List (List ℕ)) (command : Command) (read : List (List ℕ)) (answer : Answer)
+    (is : command_of words ≡ Some command) (found : Finds outside.files (files_of command) read) where
   text_judged : IsText Tells outside words answer → JudgedOver Tells outside.old outside.new outside.random command read answer
   text_judged text =
       let outcome : Outcome = record { answer = answer; key = text.after } in
       let tells : TellsFiles outside.files (files_of command) text.contents = subst (λ (o : Option Command). TellsFiles outside.files (files_read o) text.contents) is text.files in
-      let contents : text.contents ≡ map Some read = told_are outside.files file_of (files_of command) text.contents told tells ∙ all.0 in
+      let none : files_of command ≡ [] → text.contents ≡ [] = subst (λ (o : Option Command). files_read o ≡ [] → text.contents ≡ []) is text.none in
+      let all : ReadAll text.contents read = found_are outside.files (files_of command) text.contents read none tells found in
       let of_command : ByFiles (Judged Tells outside.old.seen text.random command) text.contents outcome =
       subst (λ (o : Option Command). CommandText Tells outside.old.seen text.random o text.contents outcome) is text.text in
       let by : ByFiles (Judged Tells outside.old.seen text.random command) (map Some read) outcome =
-      subst (λ (c : List (Option (List ℕ))). ByFiles (Judged Tells outside.old.seen text.random command) c outcome) contents of_command in
+      subst (λ (c : List (Option (List ℕ))). ByFiles (Judged Tells outside.old.seen text.random command) c outcome) all.0 of_command in
       record {
         random = text.random;
         told = text.told;
@@ -63,6 +66,6 @@ pub completes : (Tells : Type 0) (outside : Outside) (words : List (List ℕ)) (
     → IsDue Tells outside words before now answer → Says answer old new out_before out_now status
     → Completes Tells outside words before now old new out_before out_now status
 completes Tells outside words before now old new out_before out_now status answer due says =
-    λ command file_of read is told all calm kept.
+    λ command read is found calm kept.
     let said = said_whole answer old new out_before out_now status kept says in
-    inr (answer, due_is_judged Tells outside words command file_of read answer is told all before now calm due, said.0, said.1)
+    inr (answer, due_is_judged Tells outside words command read answer is found before now calm due, said.0, said.1)
