@@ -1,0 +1,6 @@
+pub mod Turns
+pub mod Histories
+pub mod Fits
+pub mod Seen
+pub mod Writing
+pub mod Deciding
