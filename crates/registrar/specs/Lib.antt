@@ -4,3 +4,4 @@ pub mod Fits
 pub mod Seen
 pub mod Writing
 pub mod Deciding
+pub mod Ready

@@ -2,6 +2,7 @@
 #![tactic(auto)]
 
 mod deciding;
+mod ready;
 mod records;
 mod registrar;
 mod words;
