@@ -5,3 +5,5 @@ pub mod PathLength
 pub mod Sealing
 pub mod Ruling
 pub mod MadeReady
+pub mod Making
+pub mod Walking

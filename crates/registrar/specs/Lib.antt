@@ -5,3 +5,4 @@ pub mod Seen
 pub mod Writing
 pub mod Deciding
 pub mod Ready
+pub mod Opening

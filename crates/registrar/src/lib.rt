@@ -3,6 +3,7 @@
 
 mod deciding;
 mod ready;
+mod opening;
 mod records;
 mod registrar;
 mod words;
