@@ -7,3 +7,6 @@ pub mod Ruling
 pub mod MadeReady
 pub mod Making
 pub mod Walking
+pub mod PathLengths
+pub mod Signatures
+pub mod ReadingBack

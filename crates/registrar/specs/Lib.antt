@@ -6,3 +6,4 @@ pub mod Writing
 pub mod Deciding
 pub mod Ready
 pub mod Opening
+pub mod Reading

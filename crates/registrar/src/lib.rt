@@ -4,6 +4,7 @@
 mod deciding;
 mod ready;
 mod opening;
+mod reading;
 mod records;
 mod registrar;
 mod words;
