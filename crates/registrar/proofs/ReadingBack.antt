@@ -1,5 +1,5 @@
 -- An entry's place, what is read there, and the receipts made of it.
-use Rattle.std.proofs.Common.{◌≡◌, ℕ, ◌+◌, ◌<◌, ◌≤◌, Bool, true, List, [], length, map, take, Option, None, Some, Result, Ok, Err, IfOk, sym, ap, ◌∙◌, subst, arith, slice_get, slice_index_or, option_map, option_and_then, bytes_eq}
+use Rattle.std.proofs.Common.{◌≡◌, ℕ, ◌+◌, ◌<◌, ◌≤◌, Bool, true, false, List, [], ◌∷◌, length, refl, map, take, Option, None, Some, Result, Ok, Err, IfOk, sym, ap, ◌∙◌, subst, arith, slice_get, slice_index_or, option_map, option_and_then, bytes_eq}
 use Rattle.std.specs.Prelude.{if◌then◌else◌}
 use Rattle.std.proofs.lemmas.List.{take-map, length-take}
 use Rattle.std.proofs.lemmas.Option.{slice_get-map, slice_get_within, get_or_from_slice_get}
@@ -14,13 +14,14 @@ use Rattle.receipts.specs.declared.receipt.Proof.{Proof}
 use Rattle.receipts.specs.declared.receipt.Proof.TheVariants.{Inclusion, Consistency}
 use Rattle.receipts.specs.Written.{receipt_item}
 use Rattle.log_replay.specs.declared.parts.Header.{Header}
+use Rattle.log_replay.specs.declared.parts.BatchParts.{BatchParts}
 use Rattle.log_replay.specs.declared.parts.EntryParts.{EntryParts}
-use Rattle.log_replay.specs.Records.{Log, parts_of, header_of, leaves_of, entries_of, homes_of}
+use Rattle.log_replay.specs.Records.{Log, parts_of, header_of, leaves_of, entries_of, homes_of, batch_in, record_of}
 use Rattle.log_replay.specs.WellMade.{WellMade}
 use Rattle.log_replay.specs.Growth.{StandsAt, EntryHasHome}
 use Rattle.log_replay.specs.Answers.{receipt_of, consistency_of, ReceiptIsOfBatch, ConsistencyIsOfLast}
 use Rattle.registrar.specs.declared.reading.EntryBack.{EntryBack}
-use Rattle.registrar.specs.Reading.{parts_by, back_in, back_of, IsPlace, IsEntry}
+use Rattle.registrar.specs.Reading.{parts_by, back_in, back_of, IsPlace, IsEntry, HasLeafHash}
 
 some_same : {A : Type 0} (a b : A) → Some a ≡ Some b → a ≡ b
 some_same a b e = cc
@@ -97,6 +98,37 @@ is_entry R i n hash body back p is some =
       signature = ap (λ (b : EntryBack). b.signature) same;
       parts = ap (λ (b : EntryBack). b.parts) same;
     }
+
+-- ---- the hash of what is read
+
+by_hash : (hash leaf : List ℕ) (t : Bool) (parts : EntryParts) → bytes_eq (leaf_hash leaf) hash ≡ t → (if t then parts_of leaf else None) ≡ Some parts → (leaf_hash leaf ≡ hash) × (parts_of leaf ≡ Some parts)
+by_hash hash leaf true parts test e = ((bytes_eq-Decides (leaf_hash leaf) hash).0 test, e)
+by_hash hash leaf false parts test e = cc
+
+with_leaf : (R : Log) (i n : ℕ) (hash : List ℕ) (leaves : List (List ℕ)) (parts : EntryParts) → IsPlace R i n hash → parts_by hash leaves ≡ Some parts → HasLeafHash R i parts
+with_leaf R i n hash [] parts p e = cc
+with_leaf R i n hash (leaf ∷ []) parts p e =
+    let found = by_hash hash leaf (bytes_eq (leaf_hash leaf) hash) parts refl e in
+    record {
+      leaf = leaf;
+      hashed = slice_get-map leaf_hash (leaves_of R) i ∙ ap (option_map leaf_hash) p.stands.bytes ∙ ap Some (sym p.hashed ∙ sym found.0);
+      reads = found.1;
+    }
+with_leaf R i n hash (leaf ∷ other ∷ rest) parts p e = cc
+
+with_batch : (R : Log) (i n : ℕ) (hash : List ℕ) (b : BatchParts) (o : Option EntryParts) (back : EntryBack) → IsPlace R i n hash → parts_by hash b.entries ≡ o →
+    option_map (λ parts. record { signature = b.signature; parts = parts }) o ≡ Some back → HasLeafHash R i back.parts
+with_batch R i n hash b None back p is e = cc
+with_batch R i n hash b (Some parts) back p is e =
+    let same : parts ≡ back.parts = ap (λ (x : EntryBack). x.parts) (some_same (record { signature = b.signature; parts = parts }) back e) in
+    with_leaf R i n hash b.entries back.parts p (is ∙ ap Some same)
+
+by_batch : (R : Log) (i n : ℕ) (hash : List ℕ) (o : Option BatchParts) (back : EntryBack) → IsPlace R i n hash → Some back ≡ option_and_then (back_in hash) o → HasLeafHash R i back.parts
+by_batch R i n hash None back p e = cc
+by_batch R i n hash (Some b) back p e = with_batch R i n hash b (parts_by hash b.entries) back p refl (sym e)
+
+pub has_hash : (R : Log) (i n : ℕ) (hash body : List ℕ) (back : EntryBack) → IsPlace R i n hash → Some back ≡ back_of hash body → HasLeafHash R i back.parts
+has_hash R i n hash body back p e = by_batch R i n hash (batch_in (record_of body)) back p e
 
 -- ---- the receipts
 

@@ -1,11 +1,11 @@
 -- What is read back of an entry.
-use Rattle.std.specs.Prelude.{◌≡◌, ℕ, List, [], ◌∷◌, Option, None, Result, Err, option_map, option_and_then, if◌then◌else◌}
+use Rattle.std.specs.Prelude.{Some, ◌≡◌, ℕ, List, [], ◌∷◌, Option, None, Result, Err, map, slice_get, option_map, option_and_then, if◌then◌else◌}
 use Rattle.std.specs.Str.{bytes_eq}
 use Rattle.scitt_io.specs.Causes.{Rose}
 use Rattle.merkle_tree.specs.Mth.{leaf_hash}
 use Rattle.log_replay.specs.declared.parts.BatchParts.{BatchParts}
 use Rattle.log_replay.specs.declared.parts.EntryParts.{EntryParts}
-use Rattle.log_replay.specs.Records.{Log, Entry, record_of, batch_in, parts_of}
+use Rattle.log_replay.specs.Records.{Log, Entry, record_of, batch_in, parts_of, leaves_of, homes_of}
 use Rattle.log_replay.specs.Growth.{StandsAt}
 use Rattle.registrar.specs.declared.reading.EntryBack.{EntryBack}
 use Rattle.registrar.specs.declared.words.ReadBack.{ReadBack}
@@ -43,12 +43,27 @@ pub record IsEntry (R : Log) (i : ℕ) (back : EntryBack) : Type 0 where
   pub signature : back.signature ≡ batch.signature
   pub parts : back.parts ≡ record { at = entry.at; rule = entry.rule; logged = entry.statement.logged }
 
--- why nothing was read back of an entry that the log has
-abbrev pub IsReadStop : Type 0 → ReadBack → Type 0
-IsReadStop Tells (stop.Changed number) = Tells → ⊥
-IsReadStop Tells stop.DiskFault = Unit {0}
-IsReadStop Tells stop.OutOfMemory = Unit {0}
-IsReadStop Tells _ = ⊥
+-- these are the parts of an entry that has the leaf hash of entry i
+pub record HasLeafHash (R : Log) (i : ℕ) (parts : EntryParts) : Type 0 where
+  pub leaf : List ℕ
+  pub hashed : slice_get (map leaf_hash (leaves_of R)) i ≡ Some (leaf_hash leaf)
+  pub reads : parts_of leaf ≡ Some parts
+
+-- the same of its logged form
+abbrev pub IsLoggedByHash : Log → ℕ → List ℕ → Type 0
+IsLoggedByHash R i logged = (parts : EntryParts) × HasLeafHash R i parts × (parts.logged ≡ logged)
+
+-- a changed record is the one that holds entry i
+abbrev pub NamesRecord : Log → ℕ → ReadBack → Type 0
+NamesRecord R i (stop.Changed number) = slice_get (homes_of R) i ≡ Some number
+NamesRecord R i _ = Unit {0}
+
+-- why nothing was read back of entry i, which the log has
+abbrev pub IsReadStop : Type 0 → Log → ℕ → ReadBack → Type 0
+IsReadStop Tells R i (stop.Changed number) = (slice_get (homes_of R) i ≡ Some number) × (Tells → ⊥)
+IsReadStop Tells R i stop.DiskFault = Unit {0}
+IsReadStop Tells R i stop.OutOfMemory = Unit {0}
+IsReadStop Tells R i _ = ⊥
 
 -- the disk's count of faults before and after a read: it rose where a fault is answered, and else it stayed
 abbrev pub IsReadFault : {A : Type 0} → ℕ → ℕ → Result A ReadBack → Type 0

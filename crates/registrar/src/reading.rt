@@ -1,6 +1,6 @@
 // What is read back of the log.
 
-ghost use Rattle.std.specs.Prelude.{◌≡◌, ℕ, ◌+◌, ◌<◌, ◌≤◌, IsTrue, IfOk, IfErr, IfSome, OnOk, List, [], length, take, Some, slice_index_or};
+ghost use Rattle.std.specs.Prelude.{◌≡◌, ℕ, ◌+◌, ◌-◌, ◌<◌, ◌≤◌, IsTrue, IfOk, IfErr, IfSome, OnOk, List, [], length, take, Some, slice_index_or};
 ghost use Rattle.std.specs.Result.{result_ok};
 ghost use Rattle.sha2.specs.Sha256.{sha256};
 ghost use Rattle.cbor_core.specs.Limits.{longest_string};
@@ -13,7 +13,7 @@ ghost use Rattle.log_replay.specs.declared.parts.Header.{Header};
 ghost use Rattle.log_replay.specs.Records.{header_of, entries_of, leaves_of, record_of, batch_in};
 ghost use Rattle.log_replay.specs.Answers.{receipt_of, consistency_of, keys_of};
 ghost use Rattle.registrar.specs.Turns.{Turn, receipt_call, statement_call, consistency_call, policy_call, keys_call, read, made};
-ghost use Rattle.registrar.specs.Reading.{parts_by, back_of, IsPlace, IsEntry, IsReadStop, IsReadFault};
+ghost use Rattle.registrar.specs.Reading.{parts_by, back_of, IsPlace, IsEntry, HasLeafHash, IsLoggedByHash, NamesRecord, IsReadStop, IsReadFault};
 
 use crate::registrar::Registrar;
 use crate::words::ReadBack;
@@ -119,7 +119,7 @@ impl<D: Disk> Registrar<D> {
     fn body_back(&mut self, alloc: Global, number: u64) -> Result<Vec<u8>, ReadBack>
         requires { number < length self.old.standing.log }
         ensures body { IfOk result (λ body. IsTrue D.tells → body.items ≡ slice_index_or self.old.standing.log number []) }
-        ensures stops { IfErr result (IsReadStop (IsTrue D.tells)) }
+        ensures stops { (i : ℕ) → IfErr result (IsReadStop (IsTrue D.tells) self.old.standing.log i) }
         ensures fault { IsReadFault (D.fault_count self.old.disk) (D.fault_count self.new.disk) result }
         ensures held { IsTrue D.tells → D.held self.new.disk ≡ D.held self.old.disk }
         ensures others { self.new ≡ record self.old { disk = self.new.disk } }
@@ -148,7 +148,8 @@ impl<D: Disk> Registrar<D> {
         requires { index < length (entries_of self.old.standing.log) }
         ensures entry { IfOk result (λ back. IsTrue D.tells → IsEntry self.old.standing.log index back) }
         ensures short { IfOk result (λ back. length back.signature ≤ longest_string) }
-        ensures stops { IfErr result (IsReadStop (IsTrue D.tells)) }
+        ensures hashed { IfOk result (λ back. HasLeafHash self.old.standing.log index back.parts) }
+        ensures stops { IfErr result (IsReadStop (IsTrue D.tells) self.old.standing.log index) }
         ensures fault { IsReadFault (D.fault_count self.old.disk) (D.fault_count self.new.disk) result }
         ensures held { IsTrue D.tells → D.held self.new.disk ≡ D.held self.old.disk }
         ensures others { self.new ≡ record self.old { disk = self.new.disk } }
@@ -272,11 +273,12 @@ impl<D: Disk> Registrar<D> {
 
     /// The receipt of an entry, by the Batch that the disk gives back.
     ///
-    /// `NoEntry` where the index isn't below the size. `Changed` where the body that was read isn't a Batch of the entry: over a disk
-    /// that tells what it holds it never comes. `DiskFault` where the disk's count of faults rose; `OutOfMemory`. The registrar stays as
-    /// it was.
+    /// `NoEntry` where the index isn't below the size. `Changed` where the body that was read of this record isn't a Batch of one entry
+    /// with the kept leaf hash: over a disk that tells what it holds it never comes. `DiskFault` where the disk's count of faults rose;
+    /// `OutOfMemory`. The registrar stays as it was.
     pub fn receipt(&mut self, alloc: Global, index: u32) -> Result<Bytes, ReadBack>
         ensures turn { Turn (IsTrue D.tells) self.old.standing (receipt_call index) (read result) self.new.standing }
+        ensures number { IfErr result (NamesRecord self.old.standing.log index) }
         ensures fault { IsReadFault (D.fault_count self.old.disk) (D.fault_count self.new.disk) result }
         ensures held { IsTrue D.tells → D.held self.new.disk ≡ D.held self.old.disk }
         ensures others { self.new ≡ record self.old { disk = self.new.disk } }
@@ -298,6 +300,8 @@ impl<D: Disk> Registrar<D> {
     /// The logged form of an entry, as the disk gives it back. It answers as `receipt` does.
     pub fn statement(&mut self, alloc: Global, index: u32) -> Result<Bytes, ReadBack>
         ensures turn { Turn (IsTrue D.tells) self.old.standing (statement_call index) (read result) self.new.standing }
+        ensures hash { IfOk result (IsLoggedByHash self.old.standing.log index) }
+        ensures number { IfErr result (NamesRecord self.old.standing.log index) }
         ensures fault { IsReadFault (D.fault_count self.old.disk) (D.fault_count self.new.disk) result }
         ensures held { IsTrue D.tells → D.held self.new.disk ≡ D.held self.old.disk }
         ensures others { self.new ≡ record self.old { disk = self.new.disk } }
@@ -322,6 +326,7 @@ impl<D: Disk> Registrar<D> {
     /// `NoSuchSize` where the older size is 0 or above the size. Its other refusals are those of `receipt`.
     pub fn consistency(&mut self, alloc: Global, old: u32) -> Result<Bytes, ReadBack>
         ensures turn { Turn (IsTrue D.tells) self.old.standing (consistency_call old) (read result) self.new.standing }
+        ensures number { IfErr result (NamesRecord self.old.standing.log (length (entries_of self.old.standing.log) - 1)) }
         ensures fault { IsReadFault (D.fault_count self.old.disk) (D.fault_count self.new.disk) result }
         ensures held { IsTrue D.tells → D.held self.new.disk ≡ D.held self.old.disk }
         ensures others { self.new ≡ record self.old { disk = self.new.disk } }
