@@ -1,9 +1,9 @@
 pub mod Stretches
 pub mod Adding
 pub mod Readying
-pub mod PathLength
 pub mod Sealing
 pub mod Ruling
+pub mod Admitting
 pub mod MadeReady
 pub mod Making
 pub mod Walking

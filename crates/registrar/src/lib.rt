@@ -2,10 +2,11 @@
 #![tactic(auto)]
 
 mod deciding;
-mod ready;
 mod opening;
 mod reading;
+mod ready;
 mod records;
+mod registering;
 mod registrar;
 mod words;
 mod writing;

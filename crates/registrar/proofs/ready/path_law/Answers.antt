@@ -1,8 +1,8 @@
 use Rattle.std.proofs.Common.{◌≤◌, ℕ, List, length, arith}
-use Rattle.registrar.proofs.PathLength.{path_short}
+use Rattle.registrar.proofs.PathLengths.{path_short}
 use Rattle.registrar.proofs.ready.path_law.Goals as goal
 
 pub returns : goal.returns
 returns c = λ m entries some short.
-    let within = path_short c.path_laws.ensures.one c.mth_laws.ensures.split c.path_laws.ensures.left c.path_laws.ensures.right 17 m entries some (omega (arith, short)) in
+    let within = path_short c.mth_laws.ensures.split c.path_laws.ensures.one c.path_laws.ensures.left c.path_laws.ensures.right 17 m entries (omega (arith, short)) in
     omega (arith, within)
