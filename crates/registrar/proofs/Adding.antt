@@ -1,5 +1,5 @@
 -- A record more: what fits, and what a crash leaves.
-use Rattle.std.proofs.Common.{◌≡◌, ℕ, ◌+◌, ◌≤◌, ◌⊎◌, inl, inr, Result, Ok, Err, OnErr, List, [], ◌∷◌, ◌++◌, length, Option, None, Some, refl, sym, ap, ◌∙◌, subst, arith}
+use Rattle.std.proofs.Common.{◌≡◌, ℕ, ◌+◌, ◌≤◌, inl, inr, Result, Ok, Err, OnErr, List, [], ◌∷◌, ◌++◌, length, Option, None, Some, refl, sym, ap, ◌∙◌, subst}
 use Rattle.std.specs.Prelude.{IfSome}
 use Rattle.std.proofs.lemmas.List.{length-append}
 use Rattle.scitt_disk.specs.Images.{Held, CrashLeaves}
@@ -11,7 +11,7 @@ use Rattle.log_replay.specs.Records.{Log, Record, record_of, reserved_of, used_o
 use Rattle.log_replay.specs.WellMade.{WellMade}
 use Rattle.log_replay.specs.StateSeen.{kept_of, StandsFor}
 use Rattle.log_replay.specs.Steps.{Fits as RecordFits}
-use Rattle.log_replay.specs.Laws.{FailingIsFailing, OneMore, OneLess, FrontsAreWellMade}
+use Rattle.log_replay.specs.Laws.{FailingIsFailing, OneMore, OneLess}
 use Rattle.log_replay.specs.Growth.{HeaderStays}
 use Rattle.registrar.specs.Turns.{Standing, needed_of, log_with, ready_log, IsBatch, Stops}
 use Rattle.registrar.specs.Fits.{Fits, IsHeaded, Registered, Inside, Either}

@@ -1,19 +1,17 @@
 -- A registration, put together from its parts.
-use Rattle.std.proofs.Common.{◌≡◌, ℕ, ◌+◌, length, ◌⊎◌, inl, inr, List, [], ◌∷◌, ◌++◌, Option, None, Some, refl, sym, ap, ◌∙◌, subst}
+use Rattle.std.proofs.Common.{◌≡◌, ℕ, ◌+◌, length, inl, inr, List, [], ◌∷◌, ◌++◌, Option, None, Some, sym, ap, ◌∙◌, subst}
 use Rattle.scitt_disk.specs.Images.{Held, CrashLeaves}
 use Rattle.scitt_disk.specs.Laws.{StretchesJoin}
-use Rattle.scitt_journal.specs.Layout.{Recovers}
 use Rattle.statement.specs.Said.{Said}
-use Rattle.log_replay.specs.Records.{Log, entries_of, record_of, batch_record}
-use Rattle.log_replay.specs.Steps.{batch_with, entry_text}
+use Rattle.log_replay.specs.Records.{Log, entries_of}
+use Rattle.log_replay.specs.Steps.{batch_with}
 use Rattle.log_replay.specs.Spelling.{entry_bytes}
 use Rattle.log_replay.specs.Answers.{receipt_of}
 use Rattle.log_replay.specs.Judging.{moment_after}
-use Rattle.registrar.specs.Turns.{Standing, Settles, RepairFails, ReadFails, WriteFails, Adds, Stops, StopsAtReserve, StopsAtBatch, Registers, ruling_of, goes, new_entry, IsBatch, log_with, ready_log}
-use Rattle.registrar.specs.Histories.{BetweenCalls, InsideCall}
+use Rattle.registrar.specs.Turns.{Standing, Settles, RepairFails, WriteFails, Adds, Stops, Registers, ruling_of, goes, new_entry, IsBatch, ready_log}
 use Rattle.registrar.specs.declared.words.Outcome.{Outcome}
 use Rattle.registrar.specs.declared.words.Outcome.TheVariants as answer
-use Rattle.registrar.specs.Fits.{Registered, Room, Between, Inside, Within, Leaves}
+use Rattle.registrar.specs.Fits.{Registered, Between, Inside, Within, Leaves}
 use Rattle.registrar.specs.declared.writing.Needed.{Needed}
 use Rattle.registrar.specs.declared.writing.Batch.{Batch}
 use Rattle.registrar.specs.Deciding.{IsReady}

@@ -1,5 +1,5 @@
 -- What is made ready is what the log takes.
-use Rattle.std.proofs.Common.{◌≡◌, ℕ, ◌+◌, ◌<◌, ◌≤◌, ◌==◌, nat_lt, true, false, List, [], ◌∷◌, ◌++◌, length, take, Option, None, Some, refl, sym, ap, ◌∙◌, subst, arith}
+use Rattle.std.proofs.Common.{◌≡◌, ℕ, ◌+◌, ◌<◌, ◌≤◌, true, List, [], ◌∷◌, ◌++◌, length, take, Option, None, Some, refl, sym, ap, ◌∙◌, arith}
 use Rattle.std.specs.Prelude.{option_map, slice_get, IfSome}
 use Rattle.std.proofs.lemmas.Bool.{eqb-false, ltb-false}
 use Rattle.std.proofs.lemmas.List.{length_push, take_all}
@@ -18,14 +18,13 @@ use Rattle.statement.specs.Said.{Said}
 use Rattle.log_replay.specs.declared.parts.Header.{Header}
 use Rattle.log_replay.specs.declared.parts.BatchParts.{BatchParts}
 use Rattle.log_replay.specs.declared.words.Judgement.{Judgement}
-use Rattle.log_replay.specs.declared.words.Judgement.TheVariants.{Admit}
-use Rattle.log_replay.specs.Records.{Log, Entry, Signed, record_of, batch_record, header_of, entries_of, leaves_of, batches_of, reserved_of, used_of, entry_of, logged_bytes}
+use Rattle.log_replay.specs.Records.{Entry, Signed, record_of, batch_record, header_of, entries_of, leaves_of, batches_of, reserved_of, used_of, entry_of, logged_bytes}
 use Rattle.log_replay.specs.Judging.{judge, moment_after}
 use Rattle.log_replay.specs.Steps.{batch_with, entry_text}
-use Rattle.log_replay.specs.WellMade.{WellMade, failing_of, text_signed, most_logged_bytes}
+use Rattle.log_replay.specs.WellMade.{WellMade, text_signed, most_logged_bytes}
 use Rattle.log_replay.specs.Laws.{OneMore}
-use Rattle.log_replay.specs.Growth.{HeaderIsWithin, IsAdmissible, AdmissibleFits, BatchAdds, AddsBatch, HeaderStays, EntryHasHome, BatchesAreEntries, EntriesAreLeaves, IsBounded, StandsAt}
-use Rattle.log_replay.specs.Answers.{receipt_with, receipt_at, receipt_of, signed_at, ReceiptIsOfBatch}
+use Rattle.log_replay.specs.Growth.{HeaderIsWithin, IsAdmissible, AdmissibleFits, BatchAdds, HeaderStays, EntryHasHome, BatchesAreEntries, EntriesAreLeaves, IsBounded}
+use Rattle.log_replay.specs.Answers.{receipt_with, receipt_of, signed_at, ReceiptIsOfBatch}
 use Rattle.registrar.specs.declared.writing.Needed.{Needed}
 use Rattle.registrar.specs.declared.writing.Batch.{Batch}
 use Rattle.registrar.specs.Turns.{Standing, ready_log, bytes_with}

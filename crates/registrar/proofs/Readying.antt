@@ -1,9 +1,9 @@
 -- The log with the Reserve that is needed.
-use Rattle.std.proofs.Common.{◌≡◌, ◌≢◌, ℕ, ◌+◌, ◌<◌, ◌≤◌, min, Bool, if◌then◌else◌, List, [], ◌∷◌, ◌++◌, Option, None, Some, refl, sym, ap, ◌∙◌, subst, arith, ne_eqb, eq-eqb}
+use Rattle.std.proofs.Common.{◌≡◌, ◌≢◌, ℕ, ◌+◌, ◌<◌, ◌≤◌, min, Bool, if◌then◌else◌, List, [], ◌∷◌, ◌++◌, Option, None, Some, sym, ap, ◌∙◌, subst, arith, ne_eqb, eq-eqb}
 use Rattle.std.specs.Prelude.{option_map}
 use Rattle.hss_keys.specs.Levels.{capacity}
 use Rattle.log_replay.specs.declared.parts.Header.{Header}
-use Rattle.log_replay.specs.Records.{Log, Record, record_of, reserve_record, header_of, entries_of, leaves_of, used_of, reserved_of}
+use Rattle.log_replay.specs.Records.{record_of, reserve_record, header_of, entries_of, leaves_of, used_of, reserved_of}
 use Rattle.log_replay.specs.WellMade.{WellMade}
 use Rattle.log_replay.specs.Growth.{ReserveFits, HeaderStays, ReserveAdds, HeaderIsWithin}
 use Rattle.log_replay.specs.Laws.{OneMore}

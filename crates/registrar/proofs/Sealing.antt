@@ -1,5 +1,5 @@
 -- A Batch behind the leaves of a log, and the receipt of its entry.
-use Rattle.std.proofs.Common.{◌≡◌, ℕ, ◌+◌, ◌≤◌, true, List, [], ◌∷◌, ◌++◌, length, map, Some, refl, sym, ap, ◌∙◌, subst, arith}
+use Rattle.std.proofs.Common.{◌≡◌, ℕ, ◌+◌, ◌≤◌, true, List, [], ◌∷◌, ◌++◌, length, map, Some, sym, ap, ◌∙◌, arith}
 use Rattle.std.proofs.lemmas.List.{length_push, map-append, length-map}
 use Rattle.cbor_core.specs.Exact.{strict_text}
 use Rattle.hss_keys.specs.Functions.{hss_verifies, flat_index}

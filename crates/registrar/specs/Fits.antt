@@ -1,5 +1,5 @@
 -- What a registrar keeps, and what a crash leaves of it.
-use Rattle.std.specs.Prelude.{◌≡◌, ℕ, ◌≤◌, ◌⊎◌, List, [], ◌∷◌, ◌++◌, Option, Some, None, length}
+use Rattle.std.specs.Prelude.{◌≡◌, ℕ, ◌≤◌, ◌⊎◌, List, [], ◌∷◌, Option, Some, length}
 use Rattle.scitt_io.specs.Causes.{Rose}
 use Rattle.scitt_journal.specs.Layout.{Recovers}
 use Rattle.hss_keys.specs.Signers.{SignerKey}
@@ -10,12 +10,12 @@ use Rattle.policy_rules.specs.declared.documents.Policy.{Policy}
 use Rattle.log_replay.specs.declared.state.State.{State}
 use Rattle.log_replay.specs.declared.checked.Checked.{Checked}
 use Rattle.log_replay.specs.declared.parts.Header.{Header}
-use Rattle.log_replay.specs.Records.{Log, header_of, entries_of, reserved_of, used_of}
+use Rattle.log_replay.specs.Records.{Log, header_of, reserved_of, used_of}
 use Rattle.log_replay.specs.StateSeen.{StandsFor}
 use Rattle.log_replay.specs.WellMade.{WellMade}
 use Rattle.registrar.specs.declared.words.Outcome.{Outcome}
 use Rattle.registrar.specs.declared.words.Outcome.TheVariants as answer
-use Rattle.registrar.specs.Turns.{Standing, IsSound, ruling_of, goes, new_entry, ready_log}
+use Rattle.registrar.specs.Turns.{Standing, IsSound, ruling_of, goes, new_entry}
 use Rattle.registrar.specs.Histories.{BetweenCalls, InsideCall}
 
 -- what a state has room for: an entry with these facts, and the document that it puts in force

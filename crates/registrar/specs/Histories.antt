@@ -1,6 +1,6 @@
 -- Whole histories of a registrar: turns, and stops at any moment.
-use Rattle.std.specs.Prelude.{◌≡◌, ℕ, ◌⊎◌, List, [], ◌∷◌, ◌++◌, Option, None, Some}
-use Rattle.log_replay.specs.Records.{Log, reserved_of}
+use Rattle.std.specs.Prelude.{◌≡◌, ℕ, ◌⊎◌, List, [], ◌∷◌, ◌++◌}
+use Rattle.log_replay.specs.Records.{Log}
 use Rattle.registrar.specs.Turns.{Standing, log_with, ready_log, IsBatch}
 
 -- what an image may recover between two calls

@@ -1,5 +1,5 @@
 -- What is made ready to be written.
-use Rattle.std.specs.Prelude.{◌≡◌, ℕ, ◌<◌, ◌≤◌, List, length, Option, option_map}
+use Rattle.std.specs.Prelude.{ℕ, ◌<◌, ◌≤◌, List, length, Option, option_map}
 use Rattle.registrar.specs.declared.writing.Needed.{Needed}
 
 -- the body of the Reserve that is needed, where one is

@@ -1,4 +1,4 @@
-use Rattle.std.proofs.Common.{◌≤◌, ℕ, List, length, arith}
+use Rattle.std.proofs.Common.{arith}
 use Rattle.registrar.proofs.PathLengths.{path_short}
 use Rattle.registrar.proofs.ready.path_law.Goals as goal
 

@@ -1,7 +1,6 @@
-use Rattle.std.proofs.Common.{◌≡◌, ◌+◌, true, [], ◌∷◌, Some, ℕ, List, refl, sym, ap, ◌∙◌, subst}
+use Rattle.std.proofs.Common.{◌≡◌, ◌+◌, [], ◌∷◌, Some, ℕ, List, refl, sym, ap, ◌∙◌}
 use Rattle.cbor_core.specs.Exact.{strict_text}
 use Rattle.merkle_tree.specs.Mth.{leaf_hash}
-use Rattle.merkle_tree.specs.Paths.{path_of}
 use Rattle.receipts.specs.declared.receipt.Proof.TheVariants.{Inclusion}
 use Rattle.receipts.specs.Written.{receipt_item}
 use Rattle.statement.specs.Said.{said_of}
@@ -9,7 +8,6 @@ use Rattle.log_replay.specs.Records.{record_of, batch_record}
 use Rattle.log_replay.specs.Spelling.{entry_bytes}
 use Rattle.log_replay.specs.Steps.{entry_text}
 use Rattle.log_replay.specs.Answers.{receipt_with}
-use Rattle.registrar.specs.Ready.{IsSealed}
 use Rattle.registrar.proofs.Sealing.{path_few, sealed}
 use Rattle.registrar.proofs.ready.seal.Goals as goal
 

@@ -1,8 +1,8 @@
-use Rattle.std.proofs.Common.{◌≡◌, ℕ, ◌≤◌, List, [], ◌∷◌, ◌++◌, None, Some, IsTrue, sym, ap, ◌∙◌, subst, arith}
+use Rattle.std.proofs.Common.{◌≡◌, ◌≤◌, [], ◌∷◌, ◌++◌, None, Some, IsTrue, sym, ap, ◌∙◌, subst, arith}
 use Rattle.std.specs.Prelude.{IfSome}
 use Rattle.log_replay.specs.Records.{Log, reserve_record, record_of, reserved_of, used_of}
 use Rattle.log_replay.specs.WellMade.{WellMade}
-use Rattle.registrar.specs.Turns.{Standing, ready_log, log_with}
+use Rattle.registrar.specs.Turns.{ready_log, log_with}
 use Rattle.registrar.specs.Seen.{log_of}
 use Rattle.registrar.specs.Writing.{body_needed}
 use Rattle.registrar.specs.Fits.{Registered}

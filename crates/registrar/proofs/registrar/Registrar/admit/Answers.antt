@@ -1,4 +1,4 @@
-use Rattle.std.proofs.Common.{inl, inr, refl}
+use Rattle.std.proofs.Common.{inr, refl}
 use Rattle.statement.specs.Said.{said_of}
 use Rattle.registrar.proofs.Admitting.{admit_images, admit_stops, admit_adds}
 use Rattle.registrar.proofs.registrar.Registrar.admit.Goals as goal

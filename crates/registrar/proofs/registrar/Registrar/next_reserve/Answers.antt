@@ -1,4 +1,4 @@
-use Rattle.registrar.proofs.Readying.{is_needed_none, is_needed_some}
+use Rattle.registrar.proofs.Readying.{is_needed_some}
 use Rattle.registrar.proofs.registrar.Registrar.next_reserve.Goals as goal
 
 pub returns : goal.returns

@@ -1,8 +1,8 @@
-use Rattle.std.proofs.Common.{◌≡◌, ◌≤◌, ℕ, List, Some, subst}
+use Rattle.std.proofs.Common.{◌≡◌, ◌≤◌, Some, subst}
 use Rattle.statement.specs.Said.{said_of}
 use Rattle.log_replay.specs.Records.{header_of, reserved_of, used_of}
 use Rattle.registrar.specs.Seen.{log_of}
-use Rattle.registrar.specs.Fits.{Registered, IsHeaded}
+use Rattle.registrar.specs.Fits.{Registered}
 use Rattle.registrar.specs.Ready.{IsSealed}
 use Rattle.registrar.proofs.Ruling.{goes_says}
 use Rattle.registrar.proofs.MadeReady.{is_ready, small_next, few_entries}

@@ -1,5 +1,5 @@
-use Rattle.std.proofs.Common.{◌≡◌, ℕ, List, Result, Ok, Err, OnErr, ap}
-use Rattle.registrar.specs.Turns.{Standing, IsBatch, Stops}
+use Rattle.std.proofs.Common.{ap}
+use Rattle.registrar.specs.Turns.{Standing}
 use Rattle.registrar.proofs.Adding.{put_images, stopped_images, batch_stops, on_err_of}
 use Rattle.registrar.proofs.registrar.Registrar.put.Goals as goal
 
