@@ -10,3 +10,7 @@ pub mod Walking
 pub mod PathLengths
 pub mod Signatures
 pub mod ReadingBack
+pub mod Rising
+pub mod Reserving
+pub mod Ahead
+pub mod Staying

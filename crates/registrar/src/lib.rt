@@ -2,6 +2,7 @@
 #![tactic(auto)]
 
 mod deciding;
+mod laws;
 mod opening;
 mod reading;
 mod ready;
@@ -11,5 +12,6 @@ mod registrar;
 mod words;
 mod writing;
 
+pub use laws::turn_laws;
 pub use registrar::Registrar;
 pub use words::{Outcome, Params, ReadBack, RegistrarStop};
