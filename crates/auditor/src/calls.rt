@@ -12,8 +12,8 @@ use merkle_tree::Hash;
 use scitt_io::{Source, read_to_end};
 use std::alloc::{AllocError, Global};
 
-// What the bytes of a file say.
-fn report_in(alloc: Global, bytes: &[u8]) -> Result<Report, AllocError>
+/// Audits the log that these bytes are, as `audit` does those of a source. The only error is the want of memory.
+pub fn audit_bytes(alloc: Global, bytes: &[u8]) -> Result<Report, AllocError>
     ensures { IfOk result (Reports bytes.now) }
 {
     let found = find(alloc, bytes)?;
@@ -45,7 +45,7 @@ pub fn audit<S: Source>(alloc: Global, source: &mut S, limit: u64) -> Result<Rep
     ensures keeps { S.read_keeps source.old source.new }
 {
     match read_to_end(alloc, source, limit) {
-        Ok(bytes) => Ok(report_in(alloc, &bytes)?),
+        Ok(bytes) => Ok(audit_bytes(alloc, &bytes)?),
         Err(stop) => Err(stop_of(stop)),
     }
 }

@@ -9,6 +9,6 @@ mod reports;
 mod walk;
 mod words;
 
-pub use calls::{audit, audit_since};
+pub use calls::{audit, audit_bytes, audit_since};
 pub use laws::report_laws;
 pub use words::{AuditStop, Report, Since};

@@ -8,6 +8,7 @@ pub data Command : Type 0 where
   Root : (file : List ℕ) → Command
   Show : (file : List ℕ) → Command
   Policy : (file : List ℕ) → Command
+  Audit : (file : List ℕ) → Command
   Keygen : (levels : List Level) → Command
   Attach : (statement : List ℕ) → (receipt : List ℕ) → Command
 
@@ -17,8 +18,9 @@ with_one name a =
     if bytes_eq name (codes "root") then Some (Root a)
     else (if bytes_eq name (codes "show") then Some (Show a)
     else (if bytes_eq name (codes "policy") then Some (Policy a)
+    else (if bytes_eq name (codes "audit") then Some (Audit a)
     else (if bytes_eq name (codes "keygen") then option_map Keygen (levels_named a)
-    else None)))
+    else None))))
 
 -- a name and two
 abbrev pub with_two : List ℕ → List ℕ → List ℕ → Option Command
@@ -35,6 +37,7 @@ abbrev pub files_of : Command → List (List ℕ)
 files_of (Root file) = file ∷ []
 files_of (Show file) = file ∷ []
 files_of (Policy file) = file ∷ []
+files_of (Audit file) = file ∷ []
 files_of (Keygen levels) = []
 files_of (Attach statement receipt) = statement ∷ receipt ∷ []
 

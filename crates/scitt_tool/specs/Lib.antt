@@ -14,6 +14,7 @@ pub mod Printed
 pub mod LevelNames
 pub mod Outcome
 pub mod Attach
+pub mod Audit
 pub mod Keygen
 pub mod Asking
 pub mod Stopping

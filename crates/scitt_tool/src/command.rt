@@ -22,6 +22,10 @@ pub(crate) enum Command<'a> {
     Policy {
         file: &'a str,
     },
+    /// `audit FILE`
+    Audit {
+        file: &'a str,
+    },
     /// `keygen LEVELS`
     Keygen {
         levels: Levels,
@@ -39,9 +43,10 @@ impl Command<'_> {
         ensures { option_copied result ≡ slice_get (said.files_of (meaning self.now)) place }
     {
         match self {
-            Command::Root { file } | Command::Show { file } | Command::Policy { file } => {
-                first(place, file)
-            }
+            Command::Root { file }
+            | Command::Show { file }
+            | Command::Policy { file }
+            | Command::Audit { file } => first(place, file),
             Command::Keygen { .. } => None,
             Command::Attach { statement, receipt } => either(place, statement, receipt),
         }
@@ -74,6 +79,7 @@ fn with_one<'a>(name: &str, word: &'a str) -> Option<Command<'a>>
         "root" => Some(Command::Root { file: word }),
         "show" => Some(Command::Show { file: word }),
         "policy" => Some(Command::Policy { file: word }),
+        "audit" => Some(Command::Audit { file: word }),
         "keygen" => {
             let levels = levels_named(word)?;
             Some(Command::Keygen { levels })

@@ -3,6 +3,7 @@
 
 mod answer;
 mod attach;
+mod audit;
 mod command;
 mod ended;
 mod fault;

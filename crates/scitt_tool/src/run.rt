@@ -10,6 +10,7 @@ ghost use Rattle.scitt_tool.specs.Stopping.{Stopped, CountsRandom, CountsKey};
 
 use crate::answer::{Answer, Status, disk_fault, too_long, unread, words_refused};
 use crate::attach::attach;
+use crate::audit::audit;
 use crate::command::{Command, command_of};
 use crate::file::read_files;
 use crate::keygen::keygen;
@@ -181,6 +182,7 @@ fn judge<D: Disk, S: Source>(
         Command::Root { .. } => Ok(root(alloc, first(read))?),
         Command::Show { .. } => Ok(show(alloc, first(read))?),
         Command::Policy { .. } => Ok(policy(alloc, first(read))?),
+        Command::Audit { .. } => Ok(audit(alloc, first(read))?),
         Command::Attach { .. } => Ok(attach(alloc, first(read), second(read))?),
         Command::Keygen { levels } => keygen(alloc, levels, key, random),
     }
