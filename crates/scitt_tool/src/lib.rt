@@ -3,8 +3,9 @@
 
 mod answer;
 mod attach;
-mod audit;
+mod claims;
 mod command;
+mod draft;
 mod ended;
 mod fault;
 mod file;
@@ -18,8 +19,10 @@ mod random;
 mod root;
 mod run;
 mod show;
+mod sign;
 mod stop;
 mod stops;
+mod within;
 
 pub use answer::Status;
 pub use laws::words_and_files_have_one_text;
