@@ -1,9 +1,8 @@
-//! `keygen` and `sign`, over a key file in memory.
+//! `keygen`, over a key file in memory.
 use crate::runs::{folder, run_with, words};
 use scitt_disk::MemDisk;
 use scitt_io::{MemSink, MemSource};
 use scitt_tool::{Status, run_tool};
-use sha2::{Digest, Sha256};
 use std::alloc::{AllocError, Global};
 use std::test::Fail;
 
@@ -29,46 +28,12 @@ fn record(file: &mut Vec<u8>, body: &[u8]) -> Result<(), AllocError> {
     file.extend_from_slice(body)
 }
 
-// The bytes of a key file with this first record, of whose indices so many are reserved, one at a time.
-fn key_file(alloc: Global, head: &str, reserved: u8) -> Result<Vec<u8>, Fail> {
+// The bytes of a key file of this first record.
+fn key_file(alloc: Global, head: &str) -> Result<Vec<u8>, Fail> {
     let mut file = Vec::new(alloc);
     record(&mut file, &hex::decode(alloc, head)?)?;
-    for upto in 1..=reserved {
-        if upto < 24 {
-            record(&mut file, &[0x82, 1, upto])?;
-        } else {
-            record(&mut file, &[0x82, 1, 0x18, upto])?;
-        }
-    }
     file.push(0)?;
     Ok(file)
-}
-
-fn key(alloc: Global, head: &str, reserved: u8) -> Result<MemDisk, Fail> {
-    Ok(MemDisk::new(key_file(alloc, head, reserved)?, Vec::new(alloc)))
-}
-
-// What `sign` answers: the status, and the length and the digest of what is printed.
-fn signed(
-    alloc: Global,
-    claims: [&str; 5],
-    payload: &[u8],
-    key: &mut MemDisk,
-) -> Result<(Status, usize, String), Fail> {
-    let [issuer, subject, content_type, from, until] = claims;
-    let words = ["sign", issuer, subject, content_type, from, until, "f"];
-    let (status, text) = run_with(alloc, &words, payload, key, &[])?;
-    let digest = Sha256::digest(text.as_slice());
-    Ok((status, text.len(), hex::encode(alloc, digest.as_slice())?))
-}
-
-// A text of 1,024 times the same letter.
-fn long(alloc: Global, letter: char) -> Result<String, Fail> {
-    let mut text = String::new(alloc);
-    for _ in 0..1024 {
-        text.push(letter)?;
-    }
-    Ok(text)
 }
 
 // The key of one level H5 W8 is one that another program made.
@@ -108,7 +73,7 @@ fn makes_a_key_file(rt: HostRuntime) -> Result<(), Fail> {
         text.as_slice(),
         b"public 0000000100000005000000016465666768696a6b6c6d6e6f707172731689cf4fb7f8e1f7f855d58c753f647850106b9c76480c47342cf08fbf9f2e24\nkid 6560bad8b2310cd34181f27ea272b5f013ebf4d534c9d726d80ff3837f29bf27\n".as_slice()
     );
-    assert_eq!(rt; disk.into_content(), key_file(alloc, HEAD, 0)?);
+    assert_eq!(rt; disk.into_content(), key_file(alloc, HEAD)?);
     let mut disk = empty(alloc);
     let (status, text) = run_with(alloc, &["keygen", "h5w2,h5w1"], &[], &mut disk, &random)?;
     assert_eq!(rt; status, 0);
@@ -116,164 +81,7 @@ fn makes_a_key_file(rt: HostRuntime) -> Result<(), Fail> {
         text.as_slice(),
         b"public 0000000200000005000000026465666768696a6b6c6d6e6f70717273f04430b11d4bd4ca3ade05e504b17c8ab913748538d9cc9f4b148420ee430c34\nkid 9dec7f4b3c80c56ddac8b959c9cc17ea42bccac2918097e1599b9e46f3bbae3a\n".as_slice()
     );
-    assert_eq!(rt; disk.into_content(), key_file(alloc, HEAD_OF_TWO, 0)?);
-    Ok(())
-}
-
-// The lengths and digests are of statements that the program in Python made.
-#[test]
-fn signs_at_the_next_index(rt: HostRuntime) -> Result<(), Fail> {
-    let alloc = rt.alloc();
-    let a = long(alloc, 'a')?;
-    let b = long(alloc, 'b')?;
-    let c = long(alloc, 'c')?;
-    let mut disk = key(alloc, HEAD, 0)?;
-    for (claims, payload, want_len, want) in [
-        (
-            ["acme", "pkg", "text/plain", "-", "-"],
-            b"payload".as_slice(),
-            8768,
-            "29666ea234b413216ea3d0538990457ce15685c09bbb2ccb96ddd436ee4a4e29",
-        ),
-        (
-            [
-                "acme",
-                "pkg",
-                "text/plain",
-                "1700000000",
-                "9223372036854775807",
-            ],
-            b"payload".as_slice(),
-            8784,
-            "f1b01ae2b37a92ae7c43bcf3ef29a755c0c5372d04a3cacbfb0ced2f5ee4868a",
-        ),
-        (
-            [a.as_str(), b.as_str(), c.as_str(), "0", "-"],
-            [b'x'; 300].as_slice(),
-            12127,
-            "918640c6591acd3e14b040c7449d950af7f4ac636b265d8f1de1675a4981a97e",
-        ),
-    ] {
-        let (status, len, digest) = signed(alloc, claims, payload, &mut disk)?;
-        assert_eq!(rt; (status, len), (0, want_len));
-        assert_eq!(rt; digest.as_str(), want);
-    }
-    assert_eq!(rt; disk.into_content(), key_file(alloc, HEAD, 3)?);
-    Ok(())
-}
-
-#[test]
-fn signs_until_the_key_is_exhausted(rt: HostRuntime) -> Result<(), Fail> {
-    let alloc = rt.alloc();
-    let mut disk = key(alloc, HEAD, 31)?;
-    let (status, len, digest) = signed(alloc, ["\u{e9}", "s", "", "-", "0"], &[], &mut disk)?;
-    assert_eq!(rt; (status, len), (0, 8749));
-    assert_eq!(rt;
-        digest.as_str(),
-        "02d2456f85c000103d68a73c701397bfba2821a804c50a329a5ca3000b0de2ec"
-    );
-    let words = ["sign", "acme", "pkg", "", "-", "-", "f"];
-    for _ in 0..2 {
-        let (status, text) = run_with(alloc, &words, &[], &mut disk, &[])?;
-        assert_eq!(rt; status, 7);
-        assert_eq!(rt; text.as_slice(), b"exhausted 32 32\n".as_slice());
-    }
-    assert_eq!(rt; disk.into_content(), key_file(alloc, HEAD, 32)?);
-    Ok(())
-}
-
-// An index of the second tree on the lower level.
-#[test]
-fn signs_over_two_levels(rt: HostRuntime) -> Result<(), Fail> {
-    let alloc = rt.alloc();
-    let mut disk = key(alloc, HEAD_OF_TWO, 33)?;
-    let claims = ["acme", "pkg", "text/plain", "-", "-"];
-    let (status, len, digest) = signed(alloc, claims, b"payload", &mut disk)?;
-    assert_eq!(rt; (status, len), (0, 13284));
-    assert_eq!(rt;
-        digest.as_str(),
-        "5d735bab1c70776206d0e4d9dea73186215b8c6e668dc291868a6e6cb87c6309"
-    );
-    Ok(())
-}
-
-// What is signed is a statement, and shows its claims.
-#[test]
-fn shows_what_it_signed(rt: HostRuntime) -> Result<(), Fail> {
-    let alloc = rt.alloc();
-    let mut disk = key(alloc, HEAD, 0)?;
-    let words = ["sign", "acme", "pkg", "text/plain", "5", "6", "f"];
-    let (status, statement) = run_with(alloc, &words, b"hi", &mut disk, &[])?;
-    assert_eq!(rt; status, 0);
-    let (status, text) = run_with(alloc, &["show", "f"], &statement, &mut disk, &[])?;
-    assert_eq!(rt; status, 0);
-    let front =
-        "tagged yes\nalg -46\nkid 6560bad8b2310cd34181f27ea272b5f013ebf4d534c9d726d80ff3837f29bf27\ncontent-type text/plain\nissuer acme\nsubject pkg\nnbf 5\nexp 6\niat none\npayload 2\nsignature 8688\nreceipts 0\nid ";
-    assert_eq!(rt; text.get(..front.len()), Some(front.as_bytes()));
-    Ok(())
-}
-
-// Claims beyond their limits, of which none takes an index.
-#[test]
-fn refuses_claims(rt: HostRuntime) -> Result<(), Fail> {
-    let alloc = rt.alloc();
-    let mut disk = key(alloc, HEAD, 1)?;
-    let mut a = long(alloc, 'a')?;
-    a.push_str("a")?;
-    for claims in [
-        ["", "pkg", "", "-", "-"],
-        ["acme", "", "", "-", "-"],
-        [a.as_str(), "pkg", "", "-", "-"],
-        ["acme", a.as_str(), "", "-", "-"],
-        ["acme", "pkg", a.as_str(), "-", "-"],
-    ] {
-        let [issuer, subject, content_type, from, until] = claims;
-        let words = ["sign", issuer, subject, content_type, from, until, "f"];
-        let (status, text) = run_with(alloc, &words, &[], &mut disk, &[])?;
-        assert_eq!(rt; status, 1);
-        assert_eq!(rt; text.as_slice(), b"refused claim\n".as_slice());
-    }
-    // with the payload of 7 bytes and its head of 1 the logged form has 8,768 bytes; a long payload's head has 5
-    let words = ["sign", "acme", "pkg", "text/plain", "-", "-", "f"];
-    let most = 4_194_304 - (8768 - 8 + 5);
-    let (status, text) = run_with(alloc, &words, &vec![in alloc; 0; most + 1]?, &mut disk, &[])?;
-    assert_eq!(rt; status, 1);
-    assert_eq!(rt; text.as_slice(), b"refused claim\n".as_slice());
-    let (status, text) = run_with(
-        alloc,
-        &words,
-        &vec![in alloc; 0; 4_194_305]?,
-        &mut disk,
-        &[],
-    )?;
-    assert_eq!(rt; status, 1);
-    assert_eq!(rt; text.as_slice(), b"refused claim\n".as_slice());
-    let (status, text) = run_with(alloc, &words, &vec![in alloc; 0; most]?, &mut disk, &[])?;
-    assert_eq!(rt; (status, text.len()), (0, 4_194_304));
-    assert_eq!(rt; disk.into_content(), key_file(alloc, HEAD, 2)?);
-    Ok(())
-}
-
-// Key files that aren't fit: none, one that is cut, one whose first record tells no key, and one whose second is no reservation.
-// The key file stands before the claims.
-#[test]
-fn refuses_key_files(rt: HostRuntime) -> Result<(), Fail> {
-    let alloc = rt.alloc();
-    let none = format!(in alloc; "010000003b{HEAD}010000000382010200")?;
-    for (bytes, text) in [
-        ("", "refused key none\n"),
-        ("000000000000", "refused key none\n"),
-        ("010000000000", "refused key bad 0\n"),
-        ("010000000100", "refused key short 0\n"),
-        ("01000000018000", "refused key bad 0\n"),
-        (none.as_str(), "refused key bad 1\n"),
-    ] {
-        let mut disk = MemDisk::new(hex::decode(alloc, bytes)?, Vec::new(alloc));
-        let words = ["sign", "", "pkg", "", "-", "-", "f"];
-        let (status, said) = run_with(alloc, &words, &[], &mut disk, &[])?;
-        assert_eq!(rt; status, 1, "the status at {text}");
-        assert_eq!(rt; said.as_slice(), text.as_bytes(), "the text at {text}");
-    }
+    assert_eq!(rt; disk.into_content(), key_file(alloc, HEAD_OF_TWO)?);
     Ok(())
 }
 
@@ -296,27 +104,6 @@ fn refuses_words(rt: HostRuntime) -> Result<(), Fail> {
         let (status, text) = run_with(alloc, &["keygen", levels], &[], &mut empty(alloc), &[])?;
         assert_eq!(rt; status, 2, "{levels}");
         assert_eq!(rt; text.as_slice(), b"words refused\n".as_slice(), "{levels}");
-    }
-    for moment in [
-        "",
-        "x",
-        "01",
-        "00",
-        "+1",
-        "-1",
-        "--",
-        " 1",
-        "1 ",
-        "9223372036854775808",
-        "00000000000000000000",
-        "18446744073709551616",
-    ] {
-        for [from, until] in [[moment, "-"], ["-", moment]] {
-            let words = ["sign", "acme", "pkg", "", from, until, "f"];
-            let (status, text) = run_with(alloc, &words, &[], &mut empty(alloc), &[])?;
-            assert_eq!(rt; status, 2, "{moment}");
-            assert_eq!(rt; text.as_slice(), b"words refused\n".as_slice(), "{moment}");
-        }
     }
     Ok(())
 }
@@ -369,7 +156,5 @@ fn failing_calls(alloc: Global, texts: &[&str], content: &[u8]) -> Result<u32, F
 fn says_that_a_disk_failed(rt: HostRuntime) -> Result<(), Fail> {
     let alloc = rt.alloc();
     assert!(rt; failing_calls(alloc, &["keygen", "h5w1"], &[])? >= 8);
-    let words = ["sign", "acme", "pkg", "", "-", "-", "f"];
-    assert!(rt; failing_calls(alloc, &words, &key_file(alloc, HEAD, 0)?)? >= 7);
     Ok(())
 }

@@ -1,16 +1,16 @@
 -- What there is to answer, from what the parts of a run answer.
-use Rattle.std.proofs.Common.{◌≡◌, ◌≢◌, ◌≤◌, ◌⊎◌, ℕ, List, [], ◌∷◌, length, map, Option, Some, None, Result, Ok, Err, IfOk, IfSome, inl, inr, refl, sym, ap, ◌∙◌, subst, arith}
+use Rattle.std.proofs.Common.{◌≡◌, ◌≢◌, ◌≤◌, ◌⊎◌, ℕ, List, [], Option, Some, None, Result, Ok, Err, IfOk, IfSome, inl, inr, refl, sym, ap, ◌∙◌, map, subst, arith}
 use Rattle.std.specs.Prelude.{IsSome}
 use Rattle.scitt_io.specs.Causes.{Rose}
 use Rattle.scitt_disk.specs.Images.{Held}
 use Rattle.scitt_tool.specs.declared.stops.ToolStop.{ToolStop}
 use Rattle.scitt_tool.specs.declared.stops.ToolStop.TheVariants.{ReadFault, DiskFault, OutOfMemory}
-use Rattle.scitt_tool.specs.Answer.{Answer, words_refused, unread, too_long, disk_fault}
+use Rattle.scitt_tool.specs.Answer.{Answer, words_refused, unread, too_long}
 use Rattle.scitt_tool.specs.Command.{Command, command_of, files_of, files_read}
 use Rattle.scitt_tool.specs.Outcome.{Outcome, Kept, plain}
 use Rattle.scitt_tool.specs.Reads.{FileOf, TellsFiles, ReadAll, StopsAt, ByFiles}
-use Rattle.scitt_tool.specs.ToolText.{Judged, CommandText, ToolText}
-use Rattle.scitt_tool.specs.Run.{Counts, Outside, HasCauses, JudgedOver, IsText, IsDue}
+use Rattle.scitt_tool.specs.ToolText.{Judged, CommandText}
+use Rattle.scitt_tool.specs.Run.{Counts, Outside, HasCauses, JudgedOver, IsDue}
 use Rattle.scitt_tool.specs.Stopping.{Stopped, CountsRandom, CountsKey}
 use Rattle.scitt_tool.proofs.Contents.{by_all, by_stop}
 
@@ -44,6 +44,7 @@ due_refused Tells outside words before now answer none held files random key is 
       text = inl (record {
         contents = [];
         files = subst (λ (o : Option Command). TellsFiles outside.files (files_read o) []) (sym none) (no_files outside.files);
+        none = λ _. refl;
         random = found.0;
         told = found.1;
         after = Kept;
@@ -55,9 +56,9 @@ due_refused Tells outside words before now answer none held files random key is 
 
 -- a file is longer than its limit
 pub due_too_long : (Tells : Type 0) (outside : Outside) (words : List (List ℕ)) (command : Command) (contents : List (Option (List ℕ))) (before now : Counts) (answer : Answer) → command_of words ≡ Some command
-    → TellsFiles outside.files (files_of command) contents → StopsAt contents → outside.new ≡ outside.old → now.files ≡ before.files → now.random ≡ before.random → now.key ≡ before.key → answer ≡ too_long
+    → TellsFiles outside.files (files_of command) contents → files_of command ≢ [] → StopsAt contents → outside.new ≡ outside.old → now.files ≡ before.files → now.random ≡ before.random → now.key ≡ before.key → answer ≡ too_long
     → IsDue Tells outside words before now answer
-due_too_long Tells outside words command contents before now answer some told stop held files random key is =
+due_too_long Tells outside words command contents before now answer some told there stop held files random key is =
     let found = some_random outside.random in
     let eight : answer.status ≡ 8 = ap (λ (a : Answer). a.status) is in
     let long : plain too_long ≡ plain answer = ap plain (sym is) in
@@ -65,6 +66,7 @@ due_too_long Tells outside words command contents before now answer some told st
       text = inl (record {
         contents = contents;
         files = subst (λ (o : Option Command). TellsFiles outside.files (files_read o) contents) (sym some) told;
+        none = subst (λ (o : Option Command). files_read o ≡ [] → contents ≡ []) (sym some) (λ empty. absurd (there empty));
         random = found.0;
         told = found.1;
         after = Kept;
@@ -79,10 +81,10 @@ module _ (Tells : Type 0) (outside : Outside) (words : List (List ℕ)) (command
   is_some_command = subst (λ (o : Option Command). IsSome o) (sym some) refl
 
   -- it was judged by the bytes of its files
-  due_ok : (contents : List (Option (List ℕ))) (read : List (List ℕ)) (answer : Answer) → TellsFiles outside.files (files_of command) contents → ReadAll contents read
+  due_ok : (contents : List (Option (List ℕ))) (read : List (List ℕ)) (answer : Answer) → TellsFiles outside.files (files_of command) contents → (files_of command ≡ [] → read ≡ []) → ReadAll contents read
       → JudgedOver Tells outside.old outside.new outside.random command read answer → (answer.status ≤ 1) ⊎ (answer.status ≡ 7)
       → now.files ≡ before.files → now.random ≡ before.random → now.key ≡ before.key → IsDue Tells outside words before now answer
-  due_ok contents read answer told all over status files random key =
+  due_ok contents read answer told none all over status files random key =
       let outcome : Outcome = record { answer = answer; key = over.after } in
       let text = by_all (Judged Tells outside.old.seen over.random command) read outcome all.1 over.judged in
       let three : answer.status ≢ 3 = λ e. elim status as (λ _. ⊥) [ inl low ↦ absurd (omega (arith, e, low)) | inr high ↦ absurd (omega (arith, e, high)) ] in
@@ -91,6 +93,7 @@ module _ (Tells : Type 0) (outside : Outside) (words : List (List ℕ)) (command
         text = inl (record {
           contents = contents;
           files = subst (λ (o : Option Command). TellsFiles outside.files (files_read o) contents) (sym some) told;
+          none = subst (λ (o : Option Command). files_read o ≡ [] → contents ≡ []) (sym some) (λ empty. all.0 ∙ ap (map Some) (none empty));
           random = over.random;
           told = over.told;
           after = over.after;
@@ -109,20 +112,20 @@ module _ (Tells : Type 0) (outside : Outside) (words : List (List ℕ)) (command
         causes = record { unread = λ _. inl rose; read = λ other. absurd (other three); failed = λ e. absurd (omega (arith, e, three)); whole = λ _. key };
       }
 
-  pub due_judged : {E : Type 0} (contents : List (Option (List ℕ))) (read : List (List ℕ)) (judged : Result Answer ToolStop) (result : Result Answer E) → TellsFiles outside.files (files_of command) contents → ReadAll contents read
+  pub due_judged : {E : Type 0} (contents : List (Option (List ℕ))) (read : List (List ℕ)) (judged : Result Answer ToolStop) (result : Result Answer E) → TellsFiles outside.files (files_of command) contents → (files_of command ≡ [] → read ≡ []) → ReadAll contents read
       → IfOk judged (JudgedOver Tells outside.old outside.new outside.random command read) → IfOk judged (λ answer. (answer.status ≤ 1) ⊎ (answer.status ≡ 7))
       → now.files ≡ before.files → CountsRandom before.random now.random judged → CountsKey before.key now.key judged → Stopped judged result → IfOk result (IsDue Tells outside words before now)
-  due_judged {E = E} contents read (Ok answer) result told all over status files random key stopped =
-      subst (λ (r : Result Answer E). IfOk r (IsDue Tells outside words before now)) (sym stopped) (due_ok contents read answer told all over status files random key)
-  due_judged {E = E} contents read (Err ReadFault) result told all over status files random key stopped =
+  due_judged {E = E} contents read (Ok answer) result told none all over status files random key stopped =
+      subst (λ (r : Result Answer E). IfOk r (IsDue Tells outside words before now)) (sym stopped) (due_ok contents read answer told none all over status files random key)
+  due_judged {E = E} contents read (Err ReadFault) result told none all over status files random key stopped =
       subst (λ (r : Result Answer E). IfOk r (IsDue Tells outside words before now)) (sym stopped) (record {
         text = inr (is_some_command, inl refl);
         causes = record { unread = λ _. inr random; read = λ other. absurd (other refl); failed = λ e. absurd (omega (arith, e)); whole = λ _. key };
       })
-  due_judged {E = E} contents read (Err DiskFault) result told all over status files random key stopped =
+  due_judged {E = E} contents read (Err DiskFault) result told none all over status files random key stopped =
       subst (λ (r : Result Answer E). IfOk r (IsDue Tells outside words before now)) (sym stopped) (record {
         text = inr (is_some_command, inr refl);
         causes = record { unread = λ e. absurd (omega (arith, e)); read = λ _. (files, random); failed = λ _. key; whole = λ other. absurd (other refl) };
       })
-  due_judged contents read (Err OutOfMemory) (Ok answer) told all over status files random key stopped = absurd stopped
-  due_judged contents read (Err OutOfMemory) (Err e) told all over status files random key stopped = tt
+  due_judged contents read (Err OutOfMemory) (Ok answer) told none all over status files random key stopped = absurd stopped
+  due_judged contents read (Err OutOfMemory) (Err e) told none all over status files random key stopped = tt

@@ -4,8 +4,6 @@ pub mod Contents
 pub mod Making
 pub mod Attaching
 pub mod Dues
+pub mod Runs
 pub mod OneText
 pub mod SomeText
-pub mod Numbers
-pub mod Keys
-pub mod Protected

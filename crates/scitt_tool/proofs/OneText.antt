@@ -14,10 +14,12 @@ use Rattle.statement.specs.declared.statement_type.Statement.{Statement}
 use Rattle.statement.specs.declared.stops.ParseStop.{ParseStop}
 use Rattle.statement.specs.OneAnswer.{OneAnswer}
 use Rattle.scitt_tool.specs.Answer.{Answer, done, refused}
-use Rattle.scitt_tool.specs.Command.{Command, Root, Show, Policy, Keygen, Attach, command_of}
+use Rattle.scitt_tool.specs.Command.{Command, Root, Show, Policy, Audit, Keygen, Attach, command_of}
 use Rattle.scitt_tool.specs.Reads.{ByFiles}
 use Rattle.scitt_tool.specs.Outcome.{Outcome}
 use Rattle.scitt_tool.specs.Attach.{AttachOf}
+use Rattle.scitt_tool.specs.Audit.{report_answer, AuditOf}
+use Rattle.auditor.specs.Laws.{OneReport}
 use Rattle.scitt_tool.specs.Keygen.{KeygenOf}
 use Rattle.lms_tree.specs.declared.types.Level.{Level}
 use Rattle.cose_sign1.specs.declared.sign1.Sign1.{Sign1}
@@ -145,6 +147,11 @@ one_policy one bytes a b (inr (inr p)) (inr (inl q)) = absurd (place_fault q.pla
 one_policy one bytes a b (inr (inr p)) (inr (inr q)) =
     p.is ∙ ap (λ (f : Fault). refused (codes "refused cbor " ++ fault_text f)) (same_fault p.fault q.fault (one bytes (Err (Cbor p.fault)) (Err (Cbor q.fault)) p.first q.first)) ∙ sym q.is
 
+-- ---- audit
+
+one_audit : OneReport → (bytes : List ℕ) → One (AuditOf bytes)
+one_audit one bytes a b p q = p.is ∙ ap report_answer (one bytes p.report q.report p.says q.says) ∙ sym q.is
+
 -- ---- attach
 
 same_message : OneMessage → (bytes : List ℕ) (v w : Sign1) → Sign1Of bytes v → Sign1Of bytes w → v ≡ w
@@ -206,11 +213,12 @@ one_files J each (Some bytes ∷ contents) a b (inl (small, p)) (inr (long, q)) 
 one_files J each (Some bytes ∷ contents) a b (inr (long, p)) (inl (small, q)) = absurd (omega (arith, small, long))
 one_files J each (Some bytes ∷ contents) a b (inr (long, p)) (inr (large, q)) = p ∙ sym q
 
-module _ (never : NeverBoth) (one_item : OneItem) (one_fault : OneWholeFault) (tags : TagStandsFirst) (one : OneAnswer) (document : OneDocument) (message : OneMessage) (spelling : OneStrictSpelling) where
+module _ (never : NeverBoth) (one_item : OneItem) (one_fault : OneWholeFault) (tags : TagStandsFirst) (one : OneAnswer) (document : OneDocument) (message : OneMessage) (spelling : OneStrictSpelling) (report : OneReport) where
   one_judged : (key random : List ℕ) (command : Command) (read : List (List ℕ)) → OneOutcome (Judged (Unit {0}) key random command read)
   one_judged key random (Root file) read = one_plain (RootOf (first read)) (one_root never one_item one_fault (first read))
   one_judged key random (Show file) read = one_plain (ShowOf (first read)) (one_show tags one (first read))
   one_judged key random (Policy file) read = one_plain (PolicyTextOf (first read)) (one_policy document (first read))
+  one_judged key random (Audit file) read = one_plain (AuditOf (first read)) (one_audit report (first read))
   one_judged key random (Keygen levels) read = one_keygen levels key random
   one_judged key random (Attach statement receipt) read = one_plain (AttachOf (first read) (second read)) (one_attach one message spelling (first read) (second read))
 

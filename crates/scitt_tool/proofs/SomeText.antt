@@ -16,7 +16,7 @@ use Rattle.statement.specs.declared.statement_type.Statement.{Statement}
 use Rattle.statement.specs.declared.stops.ParseStop.{ParseStop}
 use Rattle.statement.specs.OneAnswer.{AnswerOf, SomeAnswer}
 use Rattle.scitt_tool.specs.Answer.{Answer, done, refused, words_refused, unread, too_long}
-use Rattle.scitt_tool.specs.Command.{Command, Root, Show, Policy, Keygen, Attach, command_of}
+use Rattle.scitt_tool.specs.Command.{Command, Root, Show, Policy, Audit, Keygen, Attach, command_of}
 use Rattle.scitt_tool.specs.Reads.{limit, ByFiles}
 use Rattle.scitt_tool.specs.FaultText.{fault_text}
 use Rattle.cose_sign1.specs.Tbs.{byte_item}
@@ -29,6 +29,8 @@ use Rattle.policy_rules.specs.declared.documents.PolicyStop.{PolicyStop}
 use Rattle.policy_rules.specs.declared.documents.PolicyStop.TheVariants.{Cbor, BadPolicy, OutOfMemory}
 use Rattle.policy_rules.specs.OneAnswer.{AnswerOf as DocumentAnswer, SomeAnswer as SomeDocument}
 use Rattle.scitt_tool.specs.Policy.{policy_lines, PolicyTextOf}
+use Rattle.scitt_tool.specs.Audit.{report_answer, AuditOf}
+use Rattle.auditor.specs.Laws.{SomeReport}
 use Rattle.scitt_tool.specs.Outcome.{Outcome, Kept, Keyed, plain}
 use Rattle.scitt_tool.specs.Keygen.{KeygenOf, key_bytes, key_lines, public_of, head_from}
 use Rattle.lms_tree.specs.declared.types.Level.{Level}
@@ -146,6 +148,9 @@ document_text bytes (Err (BadPolicy place)) p = (refused (codes "refused policy 
 document_text bytes (Err (Cbor fault)) p = (refused (codes "refused cbor " ++ fault_text fault), inr (inr (record { fault = fault; first = p; is = refl })))
 document_text bytes (Err OutOfMemory) p = absurd p
 
+some_audit : SomeReport → (bytes : List ℕ) → IsBytes bytes → Has (AuditOf bytes)
+some_audit some bytes fits = let found = some bytes fits in (report_answer found.0, record { report = found.0; says = found.1; is = refl })
+
 -- ---- outcomes
 
 abbrev HasOutcome : (Outcome → Type 0) → Type 0
@@ -189,11 +194,12 @@ some_files J each (Some bytes ∷ contents) fits =
       | inr within ↦ (let rest = some_files (λ more. J (bytes ∷ more)) (λ more all. each (bytes ∷ more) (fits.0, all)) contents fits.1 in (rest.0, inl (within, rest.1)))
     ]
 
-module _ (either : ItemOrFault) (some : SomeAnswer) (document : SomeDocument) where
+module _ (either : ItemOrFault) (some : SomeAnswer) (document : SomeDocument) (report : SomeReport) where
   some_judged : (key random : List ℕ) (command : Command) → IsNotAttach command → (read : List (List ℕ)) → EachBytes read → HasOutcome (Judged (Unit {0}) key random command read)
   some_judged key random (Root file) other read each = some_plain (RootOf (first read)) (some_root either (first read) (first_bytes read each))
   some_judged key random (Show file) other read each = let found = some (first read) (first_bytes read each) in some_plain (ShowOf (first read)) (shown (first read) found.0 found.1)
   some_judged key random (Policy file) other read each = let found = document (first read) (first_bytes read each) in some_plain (PolicyTextOf (first read)) (document_text (first read) found.0 found.1)
+  some_judged key random (Audit file) other read each = some_plain (AuditOf (first read)) (some_audit report (first read) (first_bytes read each))
   some_judged key random (Keygen levels) other read each = some_keygen levels key random
   some_judged key random (Attach statement receipt) other read each = absurd other
 

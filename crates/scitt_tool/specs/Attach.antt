@@ -1,5 +1,5 @@
 -- `attach`: a statement with one receipt more.
-use Rattle.std.specs.Prelude.{◌≡◌, ◌⊎◌, ◌≤◌, ℕ, ◌++◌, ◌&&◌, Bool, true, false, List, length, Option, Some, None, Result, Ok, Err, nat_le, codes}
+use Rattle.std.specs.Prelude.{◌≡◌, ◌⊎◌, ℕ, ◌++◌, ◌&&◌, Bool, true, false, List, length, Option, Some, None, Result, Ok, Err, nat_le, codes}
 use Rattle.cbor_core.specs.Limits.{longest_string}
 use Rattle.cose_sign1.specs.declared.stops.Sign1Stop.{Sign1Stop}
 use Rattle.cose_sign1.specs.declared.stops.Sign1Stop.TheVariants.{OutOfMemory as Sign1OutOfMemory}

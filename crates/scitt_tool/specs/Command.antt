@@ -1,16 +1,15 @@
 -- The commands, and the words of each.
-use Rattle.std.specs.Prelude.{ℕ, ◌&&◌, Bool, true, false, List, [], ◌∷◌, Option, Some, None, option_map, if◌then◌else◌, codes}
+use Rattle.std.specs.Prelude.{ℕ, Bool, true, false, List, [], ◌∷◌, Option, Some, None, option_map, if◌then◌else◌, codes}
 use Rattle.std.specs.Str.{bytes_eq}
 use Rattle.lms_tree.specs.declared.types.Level.{Level}
-use Rattle.scitt_tool.specs.Claims.{Claims, claims_of}
 use Rattle.scitt_tool.specs.LevelNames.{levels_named}
 
 pub data Command : Type 0 where
   Root : (file : List ℕ) → Command
   Show : (file : List ℕ) → Command
   Policy : (file : List ℕ) → Command
+  Audit : (file : List ℕ) → Command
   Keygen : (levels : List Level) → Command
-  Sign : (claims : Claims) → (file : List ℕ) → Command
   Attach : (statement : List ℕ) → (receipt : List ℕ) → Command
 
 -- a name and one argument
@@ -19,26 +18,18 @@ with_one name a =
     if bytes_eq name (codes "root") then Some (Root a)
     else (if bytes_eq name (codes "show") then Some (Show a)
     else (if bytes_eq name (codes "policy") then Some (Policy a)
+    else (if bytes_eq name (codes "audit") then Some (Audit a)
     else (if bytes_eq name (codes "keygen") then option_map Keygen (levels_named a)
-    else None)))
+    else None))))
 
 -- a name and two
 abbrev pub with_two : List ℕ → List ℕ → List ℕ → Option Command
 with_two name a b = if bytes_eq name (codes "attach") then Some (Attach a b) else None
 
-abbrev pub signing : List ℕ → Claims → Command
-signing file claims = Sign claims file
-
--- a name and six
-abbrev pub with_six : List ℕ → List ℕ → List ℕ → List ℕ → List ℕ → List ℕ → List ℕ → Option Command
-with_six name iss sub type nbf exp file =
-    if bytes_eq name (codes "sign") then option_map (signing file) (claims_of iss sub type nbf exp) else None
-
 -- the command that these words are, exactly
 abbrev pub command_of : List (List ℕ) → Option Command
 command_of (name ∷ a ∷ []) = with_one name a
 command_of (name ∷ a ∷ b ∷ []) = with_two name a b
-command_of (name ∷ a ∷ b ∷ c ∷ d ∷ e ∷ f ∷ []) = with_six name a b c d e f
 command_of _ = None
 
 -- the files that a command reads, in the order of the words
@@ -46,8 +37,8 @@ abbrev pub files_of : Command → List (List ℕ)
 files_of (Root file) = file ∷ []
 files_of (Show file) = file ∷ []
 files_of (Policy file) = file ∷ []
+files_of (Audit file) = file ∷ []
 files_of (Keygen levels) = []
-files_of (Sign claims file) = file ∷ []
 files_of (Attach statement receipt) = statement ∷ receipt ∷ []
 
 -- the files that words read: none where they are no command
@@ -58,7 +49,6 @@ files_read (Some command) = files_of command
 -- the command uses the key file
 abbrev pub uses_key : Option Command → Bool
 uses_key (Some (Keygen levels)) = true
-uses_key (Some (Sign claims file)) = true
 uses_key _ = false
 
 -- it takes random bytes

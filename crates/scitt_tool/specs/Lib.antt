@@ -1,4 +1,3 @@
-pub mod Claims
 pub mod Command
 pub mod Meaning
 pub mod Answer
@@ -15,8 +14,7 @@ pub mod Printed
 pub mod LevelNames
 pub mod Outcome
 pub mod Attach
+pub mod Audit
 pub mod Keygen
 pub mod Asking
 pub mod Stopping
-pub mod Sign
-pub mod Drafts

@@ -1,5 +1,5 @@
 -- What a command comes to: its answer, and what the key file then is.
-use Rattle.std.specs.Prelude.{◌≡◌, ℕ, List, [], ◌∷◌, Some}
+use Rattle.std.specs.Prelude.{◌≡◌, ℕ, List, Some}
 use Rattle.scitt_disk.specs.Images.{Held, ImageNow}
 use Rattle.scitt_journal.specs.Layout.{RecordsOf, Recovers}
 use Rattle.key_store.specs.declared.records.KeyHead.{KeyHead}

@@ -46,6 +46,12 @@ ByFiles Judged (Some bytes ∷ contents) outcome =
 abbrev pub ReadAll : List (Option (List ℕ)) → List (List ℕ) → Type 0
 ReadAll contents read = (contents ≡ map Some read) × AllWithin read
 
+-- these files have these bytes, each within the limit: the files are told, or there are none of them
+abbrev pub Finds : Option FileOf → List (List ℕ) → List (List ℕ) → Type 0
+Finds told [] read = read ≡ []
+Finds None (name ∷ names) read = ⊥
+Finds (Some file_of) (name ∷ names) read = ReadAll (map file_of (name ∷ names)) read
+
 -- the first that isn't within the limit is longer
 abbrev pub StopsAt : List (Option (List ℕ)) → Type 0
 StopsAt [] = ⊥

@@ -1,13 +1,13 @@
 -- A run of the tool: what it was to answer, and what it wrote.
-use Rattle.std.specs.Prelude.{◌≡◌, ◌≢◌, ◌⊎◌, ◌≤◌, ◌++◌, ℕ, List, length, map, Some, IsSome, IfSome, take}
+use Rattle.std.specs.Prelude.{◌≡◌, ◌≢◌, ◌⊎◌, ◌++◌, ℕ, List, [], Some, IsSome, IfSome}
 use Rattle.std.specs.declared.option.Option.{Option}
 use Rattle.std.specs.Io.KnownBytes.{Appends}
 use Rattle.scitt_io.specs.Causes.{Rose}
 use Rattle.scitt_disk.specs.Images.{Held}
 use Rattle.scitt_tool.specs.Answer.{Answer, Says, unread, disk_fault}
 use Rattle.scitt_tool.specs.Command.{Command, command_of, files_of, files_read}
-use Rattle.scitt_tool.specs.Outcome.{Outcome, KeyAfter, KeyIs}
-use Rattle.scitt_tool.specs.Reads.{FileOf, TellsFiles, ReadAll}
+use Rattle.scitt_tool.specs.Outcome.{KeyAfter, KeyIs}
+use Rattle.scitt_tool.specs.Reads.{FileOf, TellsFiles, Finds}
 use Rattle.scitt_tool.specs.ToolText.{Judged, ToolText}
 
 -- the counts of faults of the folder, of the random source and of the key file's disk
@@ -44,6 +44,7 @@ pub record JudgedOver (Tells : Type 0) (old new : Held) (left : Option (List ℕ
 pub record IsText (Tells : Type 0) (outside : Outside) (words : List (List ℕ)) (answer : Answer) : Type 0 where
   pub contents : List (Option (List ℕ))
   pub files : TellsFiles outside.files (files_read (command_of words)) contents
+  pub none : files_read (command_of words) ≡ [] → contents ≡ []
   pub random : List ℕ
   pub told : IfSome outside.random (λ bytes. bytes ≡ random)
   pub after : KeyAfter
@@ -55,8 +56,23 @@ pub record IsDue (Tells : Type 0) (outside : Outside) (words : List (List ℕ)) 
   pub text : IsText Tells outside words answer ⊎ (IsSome (command_of words) × ((answer ≡ unread) ⊎ (answer ≡ disk_fault)))
   pub causes : HasCauses before now answer.status
 
--- What was written before and after, the sink's count before and after, and the status: what there was to answer was said.
-pub record Answers (Tells : Type 0) (outside : Outside) (words : List (List ℕ)) (before now : Counts) (old new : Option (List ℕ)) (out_before out_now : ℕ) (status : ℕ) : Type 0 where
+-- What was asked of the folder before and after, what was written before and after, the sink's count before and after, and the status:
+-- what there was to answer was said. All of the command's files were asked for, in order, unless a read fault or a file that is too long
+-- was to be answered.
+pub record Answers (Tells : Type 0) (outside : Outside) (words : List (List ℕ)) (before now : Counts) (asked_before asked_now : List (List ℕ)) (old new : Option (List ℕ)) (out_before out_now : ℕ) (status : ℕ) : Type 0 where
   pub answer : Answer
   pub due : IsDue Tells outside words before now answer
+  pub asked : answer.status ≢ 3 → answer.status ≢ 8 → asked_now ≡ asked_before ++ files_read (command_of words)
   pub says : Says answer old new out_before out_now status
+
+-- none of the counts rose
+abbrev pub NoneRose : Counts → Counts → Type 0
+NoneRose before now = (¬ Rose before.files now.files) × (¬ Rose before.random now.random) × (¬ Rose before.key now.key)
+
+-- A command whose files, if it has any, are told, each of them there and within the limit, where no count rises: the status and the text
+-- are by the bytes alone (those of the files, of the key file and of the random source), unless memory is wanting.
+abbrev pub Completes : Type 0 → Outside → List (List ℕ) → Counts → Counts → Option (List ℕ) → Option (List ℕ) → ℕ → ℕ → ℕ → Type 0
+Completes Tells outside words before now old new out_before out_now status =
+    (command : Command) (read : List (List ℕ)) → command_of words ≡ Some command → Finds outside.files (files_of command) read
+    → NoneRose before now → ¬ Rose out_before out_now
+    → (status ≡ 5) ⊎ ((answer : Answer) × JudgedOver Tells outside.old outside.new outside.random command read answer × (status ≡ answer.status) × Appends old new answer.text)

@@ -1,16 +1,16 @@
 -- The status and the text that words, files, the key file and random bytes call for, and what the key file is afterwards.
-use Rattle.std.specs.Prelude.{◌≡◌, ℕ, List, [], ◌∷◌, length, Option, Some, None}
+use Rattle.std.specs.Prelude.{◌≡◌, ℕ, List, [], ◌∷◌, Option, Some, None}
 use Rattle.cbor_core.specs.Bytes.{IsBytes}
 use Rattle.scitt_tool.specs.Answer.{Answer, words_refused}
-use Rattle.scitt_tool.specs.Command.{Command, Root, Show, Policy, Keygen, Sign, Attach, command_of, files_read}
+use Rattle.scitt_tool.specs.Command.{Command, Root, Show, Policy, Audit, Keygen, Attach, command_of}
 use Rattle.scitt_tool.specs.Outcome.{Outcome, Kept, plain}
 use Rattle.scitt_tool.specs.Reads.{ByFiles}
 use Rattle.scitt_tool.specs.Root.{RootOf}
 use Rattle.scitt_tool.specs.Show.{ShowOf}
 use Rattle.scitt_tool.specs.Policy.{PolicyTextOf}
+use Rattle.scitt_tool.specs.Audit.{AuditOf}
 use Rattle.scitt_tool.specs.Attach.{AttachOf}
 use Rattle.scitt_tool.specs.Keygen.{KeygenOf}
-use Rattle.scitt_tool.specs.Sign.{SignOf}
 
 -- the bytes of the first and of the second file
 abbrev pub first : List (List ℕ) → List ℕ
@@ -30,9 +30,9 @@ abbrev pub Judged : Type 0 → List ℕ → List ℕ → Command → List (List 
 Judged Tells key random (Root file) read = Plain (RootOf (first read))
 Judged Tells key random (Show file) read = Plain (ShowOf (first read))
 Judged Tells key random (Policy file) read = Plain (PolicyTextOf (first read))
+Judged Tells key random (Audit file) read = Plain (AuditOf (first read))
 Judged Tells key random (Attach statement receipt) read = Plain (AttachOf (first read) (second read))
 Judged Tells key random (Keygen levels) read = KeygenOf Tells levels key random
-Judged Tells key random (Sign claims file) read = SignOf Tells claims key (first read)
 
 abbrev pub CommandText : Type 0 → List ℕ → List ℕ → Option Command → List (Option (List ℕ)) → Outcome → Type 0
 CommandText Tells key random None contents outcome = outcome ≡ plain words_refused

@@ -3,7 +3,6 @@ ghost use Rattle.std.specs.Option.{option_map, option_copied};
 ghost use Rattle.scitt_tool.specs.Command as said;
 ghost use Rattle.scitt_tool.specs.Meaning.{meaning};
 
-use crate::claims::{Claims, claims_of};
 use crate::levels::levels_named;
 use hss_keys::Levels;
 use scitt_io::Words;
@@ -23,14 +22,13 @@ pub(crate) enum Command<'a> {
     Policy {
         file: &'a str,
     },
+    /// `audit FILE`
+    Audit {
+        file: &'a str,
+    },
     /// `keygen LEVELS`
     Keygen {
         levels: Levels,
-    },
-    /// `sign ISS SUB TYPE NBF EXP FILE`
-    Sign {
-        claims: Claims<'a>,
-        file: &'a str,
     },
     /// `attach STATEMENT RECEIPT`
     Attach {
@@ -48,7 +46,7 @@ impl Command<'_> {
             Command::Root { file }
             | Command::Show { file }
             | Command::Policy { file }
-            | Command::Sign { file, .. } => first(place, file),
+            | Command::Audit { file } => first(place, file),
             Command::Keygen { .. } => None,
             Command::Attach { statement, receipt } => either(place, statement, receipt),
         }
@@ -81,6 +79,7 @@ fn with_one<'a>(name: &str, word: &'a str) -> Option<Command<'a>>
         "root" => Some(Command::Root { file: word }),
         "show" => Some(Command::Show { file: word }),
         "policy" => Some(Command::Policy { file: word }),
+        "audit" => Some(Command::Audit { file: word }),
         "keygen" => {
             let levels = levels_named(word)?;
             Some(Command::Keygen { levels })
@@ -101,16 +100,6 @@ fn with_two<'a>(name: &str, first: &'a str, second: &'a str) -> Option<Command<'
     }
 }
 
-fn with_claims<'a>(name: &str, claims: Option<Claims<'a>>, file: &'a str) -> Option<Command<'a>> {
-    match name {
-        "sign" => {
-            let claims = claims?;
-            Some(Command::Sign { claims, file })
-        }
-        _ => None,
-    }
-}
-
 /// The command that these words are, exactly.
 pub(crate) fn command_of(words: &Words) -> Option<Command<'_>>
     ensures { option_map meaning result ≡ said.command_of words.now }
@@ -118,16 +107,6 @@ pub(crate) fn command_of(words: &Words) -> Option<Command<'_>>
     match words.len() {
         2 => with_one(words.word(0), words.word(1)),
         3 => with_two(words.word(0), words.word(1), words.word(2)),
-        7 => {
-            let claims = claims_of(
-                words.word(1),
-                words.word(2),
-                words.word(3),
-                words.word(4),
-                words.word(5),
-            );
-            with_claims(words.word(0), claims, words.word(6))
-        }
         _ => None,
     }
 }

@@ -1,4 +1,4 @@
-ghost use Rattle.std.specs.Prelude.{◌≡◌, ◌≤◌, ◌⊎◌, ◌+◌, ℕ, List, [], ◌∷◌, ◌++◌, length, take, map, Option, IfOk, IfErr, IsErrOf, OnOk, is_some};
+ghost use Rattle.std.specs.Prelude.{◌≡◌, ◌≢◌, ◌≤◌, ◌⊎◌, ◌+◌, ℕ, List, [], ◌∷◌, ◌++◌, length, take, map, Option, IfOk, IfErr, IsErrOf, OnOk, is_some};
 ghost use Rattle.std.specs.Io.KnownBytes.{IsAtEnd};
 ghost use Rattle.scitt_io.specs.Causes.{Rose};
 ghost use Rattle.scitt_tool.specs.Command.{files_of};
@@ -39,6 +39,8 @@ pub(crate) fn read_files<F: Folder>(
         × TellsFiles (F.files files.old) (files_of (meaning command.now)) contents × ReadAll contents (all_read read.items)) }
     ensures stops { IsErrOf result ReadStop.TooLong → (contents : List (Option (List ℕ)))
         × TellsFiles (F.files files.old) (files_of (meaning command.now)) contents × StopsAt contents }
+    ensures none { IfOk result (λ read. files_of (meaning command.now) ≡ [] → read.items ≡ []) }
+    ensures some { IsErrOf result ReadStop.TooLong → files_of (meaning command.now) ≢ [] }
     ensures end { OnOk result ((files_of (meaning command.now) ≡ []) ⊎ IsAtEnd (F.left files.new)) }
     ensures fault { IsErrOf result ReadStop.ReadFault → Rose (F.faults files.old) (F.faults files.new) }
     ensures no_fault { (IsErrOf result ReadStop.ReadFault → ⊥) → F.faults files.new ≡ F.faults files.old }

@@ -1,5 +1,6 @@
 ghost use Rattle.scitt_tool.specs.ToolText.{OneText, SomeText};
 
+use auditor::report_laws;
 use cbor_core::{strict_spelling_is_unique, whole_bytes_have_one_answer};
 use cose_sign1::{messages_have_one_answer, tag_stands_first};
 use policy_rules::documents_have_one_answer;
@@ -17,4 +18,5 @@ pub fn words_and_files_have_one_text()
     strict_spelling_is_unique();
     statements_have_one_answer();
     documents_have_one_answer();
+    report_laws();
 }

@@ -3,9 +3,8 @@
 
 mod answer;
 mod attach;
-mod claims;
+mod audit;
 mod command;
-mod draft;
 mod ended;
 mod fault;
 mod file;
@@ -19,10 +18,8 @@ mod random;
 mod root;
 mod run;
 mod show;
-mod sign;
 mod stop;
 mod stops;
-mod within;
 
 pub use answer::Status;
 pub use laws::words_and_files_have_one_text;

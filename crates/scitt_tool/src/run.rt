@@ -5,18 +5,18 @@ ghost use Rattle.scitt_tool.specs.Asking.{AsksFront};
 ghost use Rattle.scitt_tool.specs.Command.{command_of, files_of, files_read, uses_key, uses_random};
 ghost use Rattle.scitt_tool.specs.Meaning.{meaning, all_read};
 ghost use Rattle.scitt_tool.specs.ToolText.{first as first_read, second as second_read, Judged};
-ghost use Rattle.scitt_tool.specs.Run.{Answers, IsDue, JudgedOver};
+ghost use Rattle.scitt_tool.specs.Run.{Answers, Completes, IsDue, JudgedOver};
 ghost use Rattle.scitt_tool.specs.Stopping.{Stopped, CountsRandom, CountsKey};
 
 use crate::answer::{Answer, Status, disk_fault, too_long, unread, words_refused};
 use crate::attach::attach;
+use crate::audit::audit;
 use crate::command::{Command, command_of};
 use crate::file::read_files;
 use crate::keygen::keygen;
 use crate::policy::policy;
 use crate::root::root;
 use crate::show::show;
-use crate::sign::sign;
 use crate::stops::ToolStop;
 use scitt_disk::Disk;
 use scitt_io::{Folder, ReadStop, Sink, Source, Words};
@@ -50,7 +50,7 @@ pub fn run_tool<F: Folder, D: Disk, S: Source, K: Sink>(
         (record { files = F.files files.old; random = S.left random.old; old = D.held key.old; new = D.held key.new }) words.now
         (record { files = F.faults files.old; random = S.faults random.old; key = D.fault_count key.old })
         (record { files = F.faults files.new; random = S.faults random.new; key = D.fault_count key.new })
-        (K.taken out.old) (K.taken out.new) (K.refused out.old) (K.refused out.new) result }
+        (F.asked files.old) (F.asked files.new) (K.taken out.old) (K.taken out.new) (K.refused out.old) (K.refused out.new) result }
     ensures no_memory { result ≡ 5 → K.taken out.new ≡ K.taken out.old }
     ensures words_refused { command_of words.now ≡ None → (result ≡ 2) ⊎ (result ≡ 4) }
     ensures only_words { result ≡ 2 → command_of words.now ≡ None }
@@ -68,6 +68,11 @@ pub fn run_tool<F: Folder, D: Disk, S: Source, K: Sink>(
     ensures no_write_fault { result ≢ 4 → K.refused out.new ≡ K.refused out.old }
     ensures out_later { K.refused out.old ≤ K.refused out.new }
     ensures read_whole { result ≡ 0 → (files_read (command_of words.now) ≡ []) ⊎ IsAtEnd (F.left files.new) }
+    ensures complete { Completes (IsTrue D.tells)
+        (record { files = F.files files.old; random = S.left random.old; old = D.held key.old; new = D.held key.new }) words.now
+        (record { files = F.faults files.old; random = S.faults random.old; key = D.fault_count key.old })
+        (record { files = F.faults files.new; random = S.faults random.new; key = D.fault_count key.new })
+        (K.taken out.old) (K.taken out.new) (K.refused out.old) (K.refused out.new) result }
     ensures no_key { uses_key (command_of words.now) ≡ false → key.new ≡ key.old }
     ensures no_random { uses_random (command_of words.now) ≡ false → random.new ≡ random.old }
     ensures strays { IsTrue D.tells → D.strays key.new ≡ D.strays key.old }
@@ -177,8 +182,8 @@ fn judge<D: Disk, S: Source>(
         Command::Root { .. } => Ok(root(alloc, first(read))?),
         Command::Show { .. } => Ok(show(alloc, first(read))?),
         Command::Policy { .. } => Ok(policy(alloc, first(read))?),
+        Command::Audit { .. } => Ok(audit(alloc, first(read))?),
         Command::Attach { .. } => Ok(attach(alloc, first(read), second(read))?),
         Command::Keygen { levels } => keygen(alloc, levels, key, random),
-        Command::Sign { claims, .. } => sign(alloc, claims, first(read), key),
     }
 }

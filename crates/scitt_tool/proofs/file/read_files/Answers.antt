@@ -1,5 +1,6 @@
 use Rattle.std.proofs.Common.{◌≡◌, ◌+◌, ◌++◌, ◌∷◌, [], length, Some, Err, sym, ap, ◌∙◌, inr, arith, length-append}
 use Rattle.std.specs.List.{slice_get}
+use Rattle.std.proofs.lemmas.Option.{slice_get_within}
 use Rattle.std.proofs.lemmas.Result.{err_from_is_err_and}
 use Rattle.scitt_io.specs.declared.source.ReadStop.TheVariants.{TooLong}
 use Rattle.scitt_tool.specs.Command.{files_of}
@@ -15,6 +16,13 @@ returns-in_err-bytes-clause-stops g c = λ long.
     let stop = err_from_is_err_and c.from_residual.result c.from_residual.ensures.1 in
     let is : c.read_file.result ≡ Err TooLong = cc (stop.1, stop.2, long, c.in_err-bytes.was) in
     stops_long _ names (length c.loop-name.read.items) c.in-Some.name.now (all_read c.loop-name.read.items) c.read_file.result c.loop-name.invariant.told c.loop-name.invariant.short here (rw c.loop-name.invariant.kept at c.read_file.ensures.reads) is
+
+pub returns-in_err-bytes-clause-some : goal.returns-in_err-bytes-clause-some
+returns-in_err-bytes-clause-some g c = λ long empty.
+    let names = files_of (meaning c.args.command.now) in
+    let place : length c.loop-name.read.items ≡ c.len.result = omega (arith, c.len.ensures) in
+    let here : slice_get names (length c.loop-name.read.items) ≡ Some c.in-Some.name.now = ap (slice_get names) place ∙ sym c.in-Some.ensures in
+    absurd (omega (arith, slice_get_within names (length c.loop-name.read.items) c.in-Some.name.now here, ap length empty))
 
 pub returns-in_err-bytes-clause-asked_front : goal.returns-in_err-bytes-clause-asked_front
 returns-in_err-bytes-clause-asked_front g c =

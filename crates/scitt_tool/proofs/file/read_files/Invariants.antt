@@ -1,4 +1,4 @@
-use Rattle.std.proofs.Common.{◌≡◌, ◌-◌, ◌≤◌, ◌⊎◌, ◌++◌, map, Some, length, take, is_some, IfSome}
+use Rattle.std.proofs.Common.{◌≡◌, ◌-◌, ◌≤◌, ◌⊎◌, ◌++◌, map, Some, length, take, is_some}
 use Rattle.std.specs.Io.KnownBytes.{IsAtEnd}
 use Rattle.scitt_tool.specs.Command.{files_of}
 use Rattle.scitt_tool.specs.Meaning.{meaning, all_read}

@@ -1,4 +1,4 @@
-use Rattle.std.proofs.Common.{◌≡◌, ◌∙◌, refl, arith}
+use Rattle.std.proofs.Common.{◌∙◌, arith}
 use Rattle.scitt_tool.proofs.Making.{read_on}
 use Rattle.scitt_tool.proofs.random.read_front.Goals as goal
 

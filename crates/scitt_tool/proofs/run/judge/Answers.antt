@@ -15,6 +15,10 @@ pub returns-in_ok-policy-in-Policy-clause-judged :
 returns-in_ok-policy-in-Policy-clause-judged g c =
     rw c.in-Policy.is (plain_over _ _ _ _ _ _ (λ key random. (rw c.first-in-Policy.ensures at c.in_ok-policy-in-Policy.ensures, refl)))
 
+pub returns-in_ok-audit-in-Audit-clause-judged : goal.returns-in_ok-audit-in-Audit-clause-judged
+returns-in_ok-audit-in-Audit-clause-judged g c =
+    rw c.in-Audit.is (plain_over _ _ _ _ _ _ (λ key random. (rw c.first-in-Audit.ensures at c.in_ok-audit-in-Audit.ensures, refl)))
+
 pub returns-in_ok-attach-in-Attach-clause-judged :
     goal.returns-in_ok-attach-in-Attach-clause-judged
 returns-in_ok-attach-in-Attach-clause-judged g c =
