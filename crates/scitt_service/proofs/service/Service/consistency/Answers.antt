@@ -1,0 +1,23 @@
+use Rattle.std.proofs.Common.{IsTrue}
+use Rattle.registrar.specs.Reading.{IsReadFault}
+use Rattle.registrar.specs.Turns.{consistency_call, read}
+use Rattle.scitt_service.specs.declared.held.Held.{Held}
+use Rattle.scitt_service.specs.Served.{Works}
+use Rattle.scitt_service.proofs.Growing.{moved}
+use Rattle.scitt_service.proofs.service.Service.consistency.Goals as goal
+
+pub returns-clause-turn : goal.returns-clause-turn
+returns-clause-turn g c =
+    let turn = c.with.ensures in
+    record {
+      value = turn.value.registrar;
+      left = turn.left.registrar;
+      does = moved (λ (v w : Held g.row.D.Denot). Works g.D.Disk.fault_count (IsTrue g.D.Disk.tells) (consistency_call c.args.old) (read c.with.result.0) (λ before now. IsReadFault before now c.with.result.0) v.registrar w.registrar) turn.worked.shows turn.worked.leaves turn.worked.met.0;
+      lock = turn.lock;
+      weight = turn.weight;
+      grown = turn.grown;
+      list_found = turn.list_found;
+      list_left = turn.list_left;
+      marks_found = turn.marks_found;
+      marks_left = turn.marks_left;
+    }
