@@ -2,7 +2,7 @@ use Rattle.std.proofs.Common.{IsTrue}
 use Rattle.statement.specs.Said.{said_of}
 use Rattle.registrar.specs.Turns.{key_hint_call, hint}
 use Rattle.scitt_service.specs.declared.held.Held.{Held}
-use Rattle.scitt_service.specs.Served.{Works, Looks, Stays}
+use Rattle.scitt_service.specs.Served.{Works, Stays}
 use Rattle.scitt_service.proofs.Growing.{moved}
 use Rattle.scitt_service.proofs.service.Service.key_hint.Goals as goal
 

@@ -1,8 +1,5 @@
-use Rattle.std.proofs.Common.{IsTrue}
-use Rattle.statement.specs.Said.{said_of}
-use Rattle.registrar.specs.Turns.{key_hint_call, hint}
 use Rattle.scitt_service.specs.declared.held.Held.{Held}
-use Rattle.scitt_service.specs.Served.{Works, Looks, Stays}
+use Rattle.scitt_service.specs.Served.{Looks}
 use Rattle.scitt_service.proofs.Growing.{moved}
 use Rattle.scitt_service.proofs.service.Service.size.Goals as goal
 
