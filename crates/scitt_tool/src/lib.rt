@@ -20,7 +20,6 @@ mod run;
 mod show;
 mod stop;
 mod stops;
-mod verify;
 
 pub use answer::Status;
 pub use laws::words_and_files_have_one_text;
