@@ -2,10 +2,6 @@
 #![tactic(auto)]
 
 #[cfg(test)]
-mod attaching;
-#[cfg(test)]
-mod keys;
-#[cfg(test)]
 mod objects;
 #[cfg(test)]
 mod outside;

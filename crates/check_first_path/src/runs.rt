@@ -1,5 +1,5 @@
 //! Runs of the tool over memory forms, for the tests.
-use scitt_disk::{Disk, MemDisk};
+use scitt_disk::MemDisk;
 use scitt_io::{MemFolder, MemSink, MemSource, Words};
 use scitt_tool::{Status, run_tool};
 use std::alloc::{AllocError, Global};
@@ -37,21 +37,5 @@ pub fn run(alloc: Global, texts: &[&str], bytes: &[u8]) -> Result<(Status, Vec<u
     let (mut key, mut random) = no_key(alloc);
     let words = words(alloc, texts)?;
     let status = run_tool(alloc, &words, &mut files, &mut key, &mut random, &mut out);
-    Ok((status, out.into_content()))
-}
-
-/// The same over a key file and random bytes.
-pub fn run_with<D: Disk>(
-    alloc: Global,
-    texts: &[&str],
-    bytes: &[u8],
-    key: &mut D,
-    random: &[u8],
-) -> Result<(Status, Vec<u8>), AllocError> {
-    let mut files = folder(alloc, bytes, &[])?;
-    let mut out = MemSink::new(alloc, Vec::new(alloc));
-    let mut random = MemSource::new(Vec::from_slice(alloc, random)?, Vec::new(alloc));
-    let words = words(alloc, texts)?;
-    let status = run_tool(alloc, &words, &mut files, key, &mut random, &mut out);
     Ok((status, out.into_content()))
 }
