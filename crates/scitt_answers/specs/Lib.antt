@@ -1,0 +1,11 @@
+pub mod Holding
+pub mod Fits
+pub mod Routes
+pub mod RouteLaws
+pub mod Problems
+pub mod Statements
+pub mod Answers
+pub mod Asking
+pub mod Marks
+pub mod Exchanges
+pub mod Sessions

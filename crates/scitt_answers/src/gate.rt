@@ -1,0 +1,16 @@
+/// Called just outside each check of a statement's signature.
+pub trait Gate {
+    fn before_check(&mut self);
+
+    fn after_check(&mut self);
+}
+
+/// A gate that does nothing.
+#[derive(Clone, Copy, Debug, PartialEq, Eq)]
+pub struct NoGate;
+
+impl Gate for NoGate {
+    fn before_check(&mut self) {}
+
+    fn after_check(&mut self) {}
+}
