@@ -1,5 +1,5 @@
 -- A request, or a head that is refused, with its answer, and the turns that were made for it.
-use Rattle.std.specs.Prelude.{◌≡◌, ℕ, ◌+◌, ◌≤◌, ◌⊎◌, List, [], ◌∷◌, Bool, true, false, ◌==◌, Result, Ok, Err, Option, None, Some}
+use Rattle.std.specs.Prelude.{◌≡◌, ℕ, ◌+◌, ◌≤◌, ◌⊎◌, List, [], ◌∷◌, Bool, true, false, ◌==◌, Result, Ok, Err, Option, None, Some, is_some}
 use Rattle.scitt_io.specs.Causes.{Rose}
 use Rattle.scitt_io.specs.Moments.{Ticks}
 use Rattle.http_wire.specs.declared.request.Request.{Request}
@@ -19,7 +19,8 @@ use Rattle.scitt_answers.specs.declared.asking.Ask.{Ask}
 use Rattle.scitt_answers.specs.declared.asking.Ask.TheVariants as ask
 use Rattle.scitt_answers.specs.Problems.{head_problem}
 use Rattle.scitt_answers.specs.Statements.{parse_problem}
-use Rattle.scitt_answers.specs.Answers.{Manner, problem_answer, registered_answer, reply_answer}
+use Rattle.scitt_answers.specs.declared.replying.Manner.{Manner}
+use Rattle.scitt_answers.specs.Answers.{problem_answer, registered_answer, reply_answer}
 use Rattle.scitt_answers.specs.Asking.{ask_of, call_of, manner_of}
 use Rattle.scitt_answers.specs.Marks.{Step, Doing, asks, looks, AreSteps, LeavesSize}
 
@@ -29,17 +30,23 @@ pub record ClockState : Type 0 where
   pub readings : ℕ
   pub moments : Option (ℕ → Option ℕ)
 
+-- the state that a clock is in
+abbrev pub state_of : {C : Type 0} → (C → ℕ) → (C → ℕ) → (C → Option (ℕ → Option ℕ)) → C → ClockState
+state_of misses readings moments c = record { misses = misses c; readings = readings c; moments = moments c }
+
 -- it was asked once, and gave this moment
 pub record Reads (before after : ClockState) (moment : ℕ) : Type 0 where
   pub misses : after.misses ≡ before.misses
   pub readings : after.readings ≡ before.readings + 1
   pub moments : Ticks {E = Unit {0}} before.moments after.moments (Ok moment)
+  pub telling : is_some after.moments ≡ is_some before.moments
 
 -- it was asked once, and refused
 pub record Misses (before after : ClockState) : Type 0 where
   pub misses : Rose before.misses after.misses
   pub readings : after.readings ≡ before.readings + 1
-  pub moments : Ticks before.moments after.moments (Err tt)
+  pub moments : Ticks {E = Unit {0}} before.moments after.moments (Err tt)
+  pub telling : is_some after.moments ≡ is_some before.moments
 
 -- what an answer is given to
 pub data Asked : Type 0 where
@@ -52,6 +59,10 @@ pub record Exchange : Type 0 where
   pub clock_after : ClockState
   pub steps : List Step
   pub answer : Answer
+
+abbrev pub exchange_of : Asked → ClockState → ClockState → List Step → Answer → Exchange
+exchange_of asked before after steps answer =
+    record { asked = asked; clock_before = before; clock_after = after; steps = steps; answer = answer }
 
 -- one turn was made, and this was done in it
 abbrev pub DoesOne : List Step → Doing → Type 0

@@ -9,3 +9,5 @@ pub mod Asking
 pub mod Marks
 pub mod Exchanges
 pub mod Sessions
+pub mod Laws
+pub mod Judged

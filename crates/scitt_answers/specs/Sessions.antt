@@ -6,7 +6,7 @@ use Rattle.http_wire.specs.Requests.{IsRequest, IsHeadFault, EndsInside}
 use Rattle.http_wire.specs.Answering.{answer_bytes}
 use Rattle.scitt_answers.specs.declared.serving.SessionEnd.{SessionEnd}
 use Rattle.scitt_answers.specs.declared.serving.SessionEnd.TheVariants as end
-use Rattle.scitt_answers.specs.Marks.{Mark, Step, Chain, Next}
+use Rattle.scitt_answers.specs.Marks.{Mark, Step, Chain, Next, AreSteps, LeavesSize}
 use Rattle.scitt_answers.specs.Exchanges.{ClockState, Asked, request, refused, Exchange, EachIs, Counts}
 
 -- the bytes are these requests, and a head fault where it stands, and then the rest
@@ -74,6 +74,16 @@ abbrev pub LatestIs : (Mark → Mark → Type 0) → List Step → Type 0
 LatestIs last [] = Unit {0}
 LatestIs last (s ∷ []) = last s.found s.left
 LatestIs last (s ∷ t ∷ steps) = LatestIs last (t ∷ steps)
+
+-- The turns that were made for an answer, from and to where a turn could begin. They left a log of that size, and this was done in them.
+pub record Answered
+    (tells : Bool) (follows : Mark → Mark → Type 0) (begins : Mark → Type 0) (last : Mark → Mark → Type 0) (size : ℕ) (Does : List Step → Type 0) : Type 0 where
+  pub steps : List Step
+  pub chain : Chain begins follows steps
+  pub latest : LatestIs last steps
+  pub turns : AreSteps tells steps
+  pub leaves : LeavesSize steps size
+  pub does : Does steps
 
 -- Some exchanges of a session, from the request of this number on. The link had these bytes held and left, and this was
 -- written; the clock was in that state; a turn could begin there. The primed ones are those afterwards.

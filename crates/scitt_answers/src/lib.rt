@@ -4,6 +4,7 @@
 mod answering;
 mod asking;
 mod gate;
+mod laws;
 mod local;
 mod numbers;
 mod problem;
@@ -14,6 +15,7 @@ mod turns;
 
 pub use asking::{Ask, Reading, ask};
 pub use gate::{Gate, NoGate};
+pub use laws::session_laws;
 pub use local::{Local, serve_local};
 pub use problem::Problem;
 pub use routes::{Row, Target, find, routes};
