@@ -3,7 +3,7 @@ use Rattle.std.proofs.Common.{◌≡◌, ℕ, zero, suc, ◌+◌, ◌-◌, ◌<�
 use Rattle.std.proofs.lemmas.Bool.Decides.{nat_tests}
 use Rattle.matchit.specs.Rows.{RowsOf}
 use Rattle.matchit.specs.Seek.{own, step, or_else, longest_from, longest_suffix, better, cuts, with_suffix, param_step, seek, segment, has_slash, same_text, slash}
-use Rattle.scitt_answers.specs.Laws.{IsRow}
+use Rattle.scitt_answers.specs.RouteLaws.{IsRow}
 use Rattle.scitt_answers.specs.Fits.{Fits, fits_end, fits_byte, fits_part, fits_rest}
 
 step_case : {K : Type 0} (b x : ℕ) (u : List ℕ) (j : K) (rest : RowsOf K) (t : List ℕ) (k : K) (test : Bool) → (x == b) ≡ test

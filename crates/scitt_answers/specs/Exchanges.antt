@@ -19,7 +19,8 @@ use Rattle.scitt_answers.specs.declared.asking.Ask.{Ask}
 use Rattle.scitt_answers.specs.declared.asking.Ask.TheVariants as ask
 use Rattle.scitt_answers.specs.Problems.{head_problem}
 use Rattle.scitt_answers.specs.Statements.{parse_problem}
-use Rattle.scitt_answers.specs.Answers.{Manner, problem_answer, registered_answer, reply_answer}
+use Rattle.scitt_answers.specs.declared.replying.Manner.{Manner}
+use Rattle.scitt_answers.specs.Answers.{problem_answer, registered_answer, reply_answer}
 use Rattle.scitt_answers.specs.Asking.{ask_of, call_of, manner_of}
 use Rattle.scitt_answers.specs.Marks.{Step, Doing, asks, looks, AreSteps, LeavesSize}
 
