@@ -17,6 +17,10 @@ use Rattle.cbor_core.specs.Fitting.{UintText, NintText, TextText}
 use Rattle.cbor_core.specs.Items.{uint_item, nint_item, text_item, array_item, map_item}
 use Rattle.scitt_answers.specs.declared.problem.Problem.{Problem}
 use Rattle.scitt_answers.specs.declared.problem.Problem.TheVariants as problem
+use Rattle.std.proofs.lemmas.Bool.{and_parts, and_from}
+use Rattle.std.proofs.lemmas.Str.{IsUtf8-from_ascii, is_utf8-from_IsUtf8}
+use Rattle.scitt_answers.specs.Routes.{is_plain}
+use Rattle.scitt_answers.proofs.Texts.{plain_ascii}
 use Rattle.scitt_answers.specs.Problems.{kind_of, number_text, fields_text, title_text}
 
 size_short : (major : ℕ) (size : Size) (n : ℕ) → length (head major size n) ≤ 9
@@ -94,22 +98,28 @@ module _ (uint : UintText) (nint : NintText) (text : TextText) where
       (133 ∷ (number_text code ++ (number_text size ++ (number_text moment ++ (number_text a ++ number_text b))))) (head 3 (size_of (length title)) (length title) ++ title)
       (uint 15 1) (fields_are 14 code size moment a b c_low s_low m_low a_low b_low) (nint 15 0) (text_is 15 title whole)))
 
+title_plain : (p : Problem) → (nat_le (length (kind_of p).title) longest_string && is_plain (kind_of p).title) ≡ true
+title_plain problem.BadHead = refl
+title_plain (problem.BadStatement number place) = refl
+title_plain (problem.Denied rule moment) = refl
+title_plain problem.NoRoute = refl
+title_plain (problem.NoEntry index) = refl
+title_plain (problem.NoSuchSize old) = refl
+title_plain (problem.BadMethod allowed) = refl
+title_plain problem.NoLength = refl
+title_plain problem.TooLarge = refl
+title_plain problem.BadType = refl
+title_plain problem.HeadTooLong = refl
+title_plain (problem.LogFull entries bytes) = refl
+title_plain (problem.KeyExhausted next capacity) = refl
+title_plain problem.DiskFault = refl
+title_plain problem.ClockFault = refl
+title_plain problem.OutOfMemory = refl
+title_plain (problem.DiskChanged number) = refl
+
 -- each title is a short text
 pub title_whole : (p : Problem) → (nat_le (length (kind_of p).title) longest_string && is_utf8 (kind_of p).title) ≡ true
-title_whole problem.BadHead = refl
-title_whole (problem.BadStatement number place) = refl
-title_whole (problem.Denied rule moment) = refl
-title_whole problem.NoRoute = refl
-title_whole (problem.NoEntry index) = refl
-title_whole (problem.NoSuchSize old) = refl
-title_whole (problem.BadMethod allowed) = refl
-title_whole problem.NoLength = refl
-title_whole problem.TooLarge = refl
-title_whole problem.BadType = refl
-title_whole problem.HeadTooLong = refl
-title_whole (problem.LogFull entries bytes) = refl
-title_whole (problem.KeyExhausted next capacity) = refl
-title_whole problem.DiskFault = refl
-title_whole problem.ClockFault = refl
-title_whole problem.OutOfMemory = refl
-title_whole (problem.DiskChanged number) = refl
+title_whole p =
+    let title = (kind_of p).title in
+    let parts = and_parts (nat_le (length title) longest_string) (is_plain title) (title_plain p) in
+    and_from (nat_le (length title) longest_string) (is_utf8 title) parts.0 (is_utf8-from_IsUtf8 title (IsUtf8-from_ascii title (plain_ascii title parts.1)))
