@@ -1,9 +1,10 @@
 -- The route that the search finds has a pattern that the path fits.
-use Rattle.std.proofs.Common.{◌≡◌, ℕ, zero, suc, ◌+◌, ◌-◌, ◌<◌, ◌≤◌, ◌⊎◌, inl, inr, List, [], ◌∷◌, length, take, drop, Bool, true, false, cond, ◌&&◌, ◌==◌, Option, None, Some, refl, sym, ap, subst, arith, take-append-drop, ltb, length-take}
+use Rattle.std.proofs.Common.{◌≡◌, ℕ, zero, suc, ◌+◌, ◌-◌, ◌<◌, ◌≤◌, ◌⊎◌, inl, inr, List, [], ◌∷◌, length, take, drop, Bool, true, false, cond, ◌&&◌, ◌==◌, Option, None, Some, refl, sym, ap, subst, arith, take-append-drop, ltb, length-take, ◌∙◌}
+use Rattle.std.proofs.Math.Seq.{take-length}
 use Rattle.std.proofs.lemmas.Bool.Decides.{nat_tests}
 use Rattle.matchit.specs.Rows.{RowsOf}
 use Rattle.matchit.specs.Seek.{own, step, or_else, longest_from, longest_suffix, better, cuts, with_suffix, param_step, seek, segment, has_slash, same_text, slash}
-use Rattle.scitt_answers.specs.Laws.{IsRow}
+use Rattle.scitt_answers.specs.RouteLaws.{IsRow}
 use Rattle.scitt_answers.specs.Fits.{Fits, fits_end, fits_byte, fits_part, fits_rest}
 
 step_case : {K : Type 0} (b x : ℕ) (u : List ℕ) (j : K) (rest : RowsOf K) (t : List ℕ) (k : K) (test : Bool) → (x == b) ≡ test
@@ -75,43 +76,67 @@ pub param_step_is : {K : Type 0} (rs : RowsOf K) (path : List ℕ) → param_ste
 unfolding param_step
 param_step_is rs path = step_is rs path (ltb 0 (length (longest_suffix (segment path) rs))) (has_slash path)
 
+-- a text has no slash before the last byte of its segment
+front_case : (b m : ℕ) (bs : List ℕ) (test : Bool) → (m < length (segment bs) → has_slash (take m bs) ≡ false)
+    → suc m < length (cond test (b ∷ []) (b ∷ segment bs)) → cond test true (has_slash (take m bs)) ≡ false
+front_case b m bs true f below = absurd (omega arith)
+front_case b m bs false f below = f (omega arith)
+
+front_plain : (path : List ℕ) (n : ℕ) → n < length (segment path) → has_slash (take n path) ≡ false
+front_plain path zero below = refl
+front_plain [] (suc m) below = absurd (omega arith)
+front_plain (b ∷ bs) (suc m) below = front_case b m bs (b == slash) (front_plain bs m) below
+
+-- what a parameter takes: one byte or more, not more than there are, and none of them a slash
+pub record Takes (path : List ℕ) (n : ℕ) : Type 0 where
+  pub some : 0 < n
+  pub within : n ≤ length path
+  pub plain : has_slash (take n path) ≡ false
+
 takes : {K : Type 0} (rs : RowsOf K) (path : List ℕ) (long slashed : Bool) (t : List ℕ) (k : K) → 0 < length path
-    → (long ≡ true → length (longest_suffix (segment path) rs) < length (segment path))
-    → IsRow (step_by rs path long slashed).1 t k → (0 < (step_by rs path long slashed).0) × ((step_by rs path long slashed).0 ≤ length path) × IsRow rs t k
-takes rs path true slashed t k some f a =
-    let less : length (longest_suffix (segment path) rs) < length (segment path) = f refl in
-    (omega (arith, less), omega (arith, segment_short path), among_suffix _ rs t k a)
-takes rs path false true t k some f a = absurd a
-takes rs path false false t k some f a = (some, omega arith, a)
+    → (long ≡ true → (0 < length (longest_suffix (segment path) rs)) × (length (longest_suffix (segment path) rs) < length (segment path)))
+    → has_slash path ≡ slashed
+    → IsRow (step_by rs path long slashed).1 t k → Takes path (step_by rs path long slashed).0 × IsRow rs t k
+takes rs path true slashed t k some f e a =
+    let less = f refl in
+    (
+      record {
+        some = omega (arith, less.1);
+        within = omega (arith, segment_short path);
+        plain = front_plain path (length (segment path) - length (longest_suffix (segment path) rs)) (omega (arith, less.0, less.1));
+      },
+      among_suffix _ rs t k a,
+    )
+takes rs path false true t k some f e a = absurd a
+takes rs path false false t k some f e a =
+    (record { some = some; within = omega arith; plain = ap has_slash (take-length path) ∙ e }, a)
 
 long_is : (n : ℕ) → ltb 0 n ≡ true → 0 < n
 long_is n e = grind (arith, nat_tests)
 
--- a parameter takes one byte or more, and not more than there are
 pub param_takes : {K : Type 0} (rs : RowsOf K) (path : List ℕ) (t : List ℕ) (k : K) → 0 < length path
     → IsRow (step_by rs path (ltb 0 (length (longest_suffix (segment path) rs))) (has_slash path)).1 t k
-    → (0 < (step_by rs path (ltb 0 (length (longest_suffix (segment path) rs))) (has_slash path)).0)
-    × ((step_by rs path (ltb 0 (length (longest_suffix (segment path) rs))) (has_slash path)).0 ≤ length path) × IsRow rs t k
+    → Takes path (step_by rs path (ltb 0 (length (longest_suffix (segment path) rs))) (has_slash path)).0 × IsRow rs t k
 param_takes rs path t k some h =
     takes rs path (ltb 0 (length (longest_suffix (segment path) rs))) (has_slash path) t k some
-    (λ e. longest_short (segment path) [] rs (λ none. absurd (omega arith)) (long_is _ e)) h
+    (λ e. (long_is _ e, longest_short (segment path) [] rs (λ none. absurd (omega arith)) (long_is _ e))) refl h
 
 or_else_case : {K : Type 0} (x y : Option K) (k : K) → or_else x y ≡ Some k → (x ≡ Some k) ⊎ (y ≡ Some k)
 or_else_case None y k e = inr e
 or_else_case (Some j) y k e = inl e
 
-part_fits : (n b : ℕ) (path t : List ℕ) → 0 < n → n ≤ length (b ∷ path) → Fits t (drop (n - 1) path) → Fits (256 ∷ t) (b ∷ path)
-part_fits n b path t some within h =
-    let less : n ≡ suc (n - 1) = omega arith in
+part_fits : (n b : ℕ) (path t : List ℕ) → Takes (b ∷ path) n → Fits t (drop (n - 1) path) → Fits (256 ∷ t) (b ∷ path)
+part_fits n b path t takes h =
+    let less : n ≡ suc (n - 1) = omega (arith, takes.some) in
     let behind : drop n (b ∷ path) ≡ drop (n - 1) path = ap (λ (i : ℕ). drop i (b ∷ path)) less in
-    let long : 0 < length (take n (b ∷ path)) = omega (arith, length-take n (b ∷ path)) in
-    subst (Fits (256 ∷ t)) (take-append-drop n (b ∷ path)) (fits_part (take n (b ∷ path)) t (drop n (b ∷ path)) long (subst (Fits t) (sym behind) h))
+    let long : 0 < length (take n (b ∷ path)) = omega (arith, takes.some, takes.within, length-take n (b ∷ path)) in
+    subst (Fits (256 ∷ t)) (take-append-drop n (b ∷ path)) (fits_part (take n (b ∷ path)) t (drop n (b ∷ path)) long takes.plain (subst (Fits t) (sym behind) h))
 
 -- the same of the step itself
 pub step_takes : {K : Type 0} (rs : RowsOf K) (path : List ℕ) (t : List ℕ) (k : K) → 0 < length path
-    → IsRow (param_step rs path).1 t k → (0 < (param_step rs path).0) × ((param_step rs path).0 ≤ length path) × IsRow rs t k
+    → IsRow (param_step rs path).1 t k → Takes path (param_step rs path).0 × IsRow rs t k
 step_takes {K} rs path t k some h =
-    subst (λ (s : ℕ × RowsOf K). IsRow s.1 t k → (0 < s.0) × (s.0 ≤ length path) × IsRow rs t k) (sym (param_step_is rs path)) (param_takes rs path t k some) h
+    subst (λ (s : ℕ × RowsOf K). IsRow s.1 t k → Takes path s.0 × IsRow rs t k) (sym (param_step_is rs path)) (param_takes rs path t k some) h
 
 -- the pattern of the row that a path is found to match spells the path
 pub seek_fits : {K : Type 0} (path : List ℕ) (skip : ℕ) (rs : RowsOf K) (k : K) → seek skip rs path ≡ Some k
@@ -127,7 +152,7 @@ seek_fits (b ∷ path) zero rs k e =
         | inl p ↦ (
             let r = seek_fits path ((param_step (step 256 rs) (b ∷ path)).0 - 1) (param_step (step 256 rs) (b ∷ path)).1 k p in
             let f = step_takes (step 256 rs) (b ∷ path) r.0 k (omega arith) r.1 in
-            (256 ∷ r.0, among_step 256 rs r.0 k f.2, part_fits (param_step (step 256 rs) (b ∷ path)).0 b path r.0 f.0 f.1 r.2)
+            (256 ∷ r.0, among_step 256 rs r.0 k f.1, part_fits (param_step (step 256 rs) (b ∷ path)).0 b path r.0 f.0 r.2)
             )
         | inr p ↦ (257 ∷ [], among_step 257 rs [] k (own_among (step 257 rs) k p), fits_rest (b ∷ path))
       ]

@@ -12,7 +12,7 @@ use Rattle.matchit.specs.Seek.{first}
 use Rattle.matchit.specs.Router.{RouteOf}
 use Rattle.matchit.specs.Params.{part_of, after_token, wild_from, wild_stop, walk, AllText}
 use Rattle.scitt_answers.specs.declared.routes.Row.{Row}
-use Rattle.scitt_answers.specs.Laws.{IsRow}
+use Rattle.scitt_answers.specs.RouteLaws.{IsRow}
 use Rattle.scitt_answers.specs.Routes.{is_plain, table}
 use Rattle.scitt_answers.proofs.Fitting.{seek_fits}
 

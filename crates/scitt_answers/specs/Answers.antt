@@ -1,5 +1,5 @@
 -- The answer that a reply of the log gets.
-use Rattle.std.specs.Prelude.{ℕ, List, Bool, Result, Ok, Err, Option, None, Some}
+use Rattle.std.specs.Prelude.{ℕ, List, Result, Ok, Err, Option, None, Some}
 use Rattle.http_wire.specs.declared.answer.Answer.{Answer}
 use Rattle.http_wire.specs.declared.answer.BodyKind.{BodyKind}
 use Rattle.http_wire.specs.declared.answer.BodyKind.TheVariants as kinds
@@ -10,14 +10,10 @@ use Rattle.registrar.specs.declared.words.ReadBack.{ReadBack}
 use Rattle.registrar.specs.declared.words.ReadBack.TheVariants as stop
 use Rattle.registrar.specs.Turns.{registered, read, made, hint}
 use Rattle.registrar.specs.Turns.{Answer as Reply}
+use Rattle.scitt_answers.specs.declared.replying.Manner.{Manner}
 use Rattle.scitt_answers.specs.declared.problem.Problem.{Problem}
 use Rattle.scitt_answers.specs.declared.problem.Problem.TheVariants as problem
 use Rattle.scitt_answers.specs.Problems.{kind_of, allow_of, problem_bytes}
-
--- what an answer has by its request and its place: whether the connection ends behind it, and whether its body is left out
-pub record Manner : Type 0 where
-  pub close : Bool
-  pub head_only : Bool
 
 -- an answer with a body of the log's; where it is that of an entry that was registered it names the entry's place
 abbrev pub body_answer : ℕ → BodyKind → List ℕ → Option ℕ → ℕ → Manner → Answer

@@ -13,7 +13,7 @@ use Rattle.scitt_answers.specs.declared.asking.Ask.TheVariants as ask
 use Rattle.scitt_answers.specs.declared.asking.Reading.{Reading}
 use Rattle.scitt_answers.specs.declared.asking.Reading.TheVariants as reading
 use Rattle.scitt_answers.specs.Routes.{path_of, target_of}
-use Rattle.scitt_answers.specs.Answers.{Manner}
+use Rattle.scitt_answers.specs.declared.replying.Manner.{Manner}
 
 -- HEAD asks for what GET asks for (RFC 9110, 9.3.2)
 abbrev pub read_by : Method → Reading → Ask

@@ -1,6 +1,8 @@
 -- What a problem says, and the bytes of its body (RFC 9290, 2 and 3.3: the title has the key -1, and the service's own numbers the key 1).
-use Rattle.std.specs.Prelude.{ℕ, List, [], ◌∷◌, codes}
+use Rattle.std.specs.Prelude.{ℕ, List, [], ◌∷◌, ◌++◌, length, codes}
 use Rattle.cbor_core.specs.declared.tree.Item.{Item}
+use Rattle.cbor_core.specs.Head.{head}
+use Rattle.cbor_core.specs.Encoding.{size_of}
 use Rattle.cbor_core.specs.Items.{uint_item, nint_item, text_item, array_item, map_item}
 use Rattle.cbor_core.specs.Exact.{strict_text}
 use Rattle.http_wire.specs.declared.answer.Allow.{Allow}
@@ -69,6 +71,19 @@ fields_item k size n = array_item (uint_item k.code ∷ uint_item size ∷ uint_
 abbrev pub problem_item : Problem → ℕ → Item
 problem_item p size =
     map_item ((uint_item 1, fields_item (kind_of p) size (numbers_of p)) ∷ (nint_item 0, text_item (kind_of p).title) ∷ [])
+
+-- a number's strict bytes (RFC 8949, 3 and 4.2.1)
+abbrev pub number_text : ℕ → List ℕ
+number_text n = head 0 (size_of n) n
+
+-- what stands in a body before its title's key: the head of a map of two, the key 1, and an array of five numbers
+abbrev pub fields_text : ℕ → ℕ → ℕ → ℕ → ℕ → List ℕ
+fields_text code size moment a b =
+    (162 ∷ 1 ∷ 133 ∷ []) ++ (number_text code ++ (number_text size ++ (number_text moment ++ (number_text a ++ number_text b))))
+
+-- the key -1, and a title
+abbrev pub title_text : List ℕ → List ℕ
+title_text title = (32 ∷ []) ++ (head 3 (size_of (length title)) (length title) ++ title)
 
 unfoldable pub problem_bytes : Problem → ℕ → List ℕ
 problem_bytes p size = strict_text (problem_item p size)

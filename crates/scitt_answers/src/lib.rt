@@ -11,13 +11,15 @@ mod problem;
 mod replying;
 mod routes;
 mod serving;
+mod statements;
 mod turns;
 
-pub use asking::{Ask, Reading, ask};
+pub use asking::{Ask, Reading, ask_of};
 pub use gate::{Gate, NoGate};
 pub use laws::session_laws;
 pub use local::{Local, serve_local};
 pub use problem::Problem;
-pub use routes::{Row, Target, find, routes};
+pub use replying::Manner;
+pub use routes::{Row, Target, find, new_router};
 pub use serving::{SessionEnd, serve};
 pub use turns::Turns;

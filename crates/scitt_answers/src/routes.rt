@@ -4,7 +4,7 @@ ghost use Rattle.std.specs.List.{list_all};
 ghost use Rattle.std.specs.Char.{is_ascii};
 ghost use Rattle.matchit.specs.Params.{AllText, walk};
 ghost use Rattle.scitt_answers.specs.RouteLaws.{PathsFit};
-ghost use Rattle.scitt_answers.specs.Routes.{is_plain as plain, number_at as number_in_place, target_at, table, target_of};
+ghost use Rattle.scitt_answers.specs.Routes.{path_of as path_in, is_plain as plain, number_at as number_in_place, target_at, table, target_of};
 
 use crate::numbers::number_of;
 use matchit::{InsertError, Params, Router};
@@ -34,7 +34,7 @@ pub enum Target {
 }
 
 /// The six routes.
-pub fn routes(alloc: Global) -> Result<Router<Row>, InsertError>
+pub fn new_router(alloc: Global) -> Result<Router<Row>, InsertError>
     ensures { IfOk result (λ router. router ≡ table) }
 {
     let mut router = Router::new(alloc);
@@ -52,6 +52,16 @@ pub fn routes(alloc: Global) -> Result<Router<Row>, InsertError>
 pub fn route_laws()
     ensures { PathsFit }
 {}
+
+/// The path of a target: what stands before its first question mark, or all of it.
+pub(crate) fn path_of(target: &str) -> &str
+    ensures { result.now ≡ path_in target.now }
+{
+    match target.split_once('?') {
+        Some((path, _)) => path,
+        None => target,
+    }
+}
 
 fn is_plain(bytes: &[u8]) -> bool
     ensures { result ≡ plain bytes.now }

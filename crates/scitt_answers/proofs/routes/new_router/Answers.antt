@@ -1,7 +1,7 @@
 use Rattle.std.proofs.Common.{refl}
 use Rattle.matchit.proofs.OnLiterals.{matchit_on_literals}
 use Rattle.scitt_answers.specs.Routes.{table}
-use Rattle.scitt_answers.proofs.routes.routes.Goals as goal
+use Rattle.scitt_answers.proofs.routes.new_router.Goals as goal
 
 pub returns : goal.returns
 unfolding matchit_on_literals table
