@@ -1,7 +1,9 @@
 -- Answers with the turns made for them.
 use Rattle.std.proofs.Common.{◌≡◌, ℕ, List, [], ◌∷◌, Bool, Option, None, Some, Result, Ok, Err, refl, sym, ap, ◌∙◌, subst}
 use Rattle.std.specs.Prelude.{option_map}
+use Rattle.scitt_io.specs.Moments.{Ticks}
 use Rattle.http_wire.specs.declared.answer.Answer.{Answer}
+use Rattle.http_wire.specs.declared.request.Request.{Request}
 use Rattle.statement.specs.declared.statement_type.Statement.{Statement}
 use Rattle.statement.specs.declared.stops.ParseStop.{ParseStop}
 use Rattle.statement.specs.declared.stops.ParseStop.TheVariants as parse
@@ -17,8 +19,10 @@ use Rattle.scitt_answers.specs.declared.problem.Problem.TheVariants as problem
 use Rattle.scitt_answers.specs.declared.replying.Manner.{Manner}
 use Rattle.scitt_answers.specs.Answers.{problem_answer, registered_answer, read_answer, made_answer}
 use Rattle.scitt_answers.specs.Statements.{parse_problem}
+use Rattle.scitt_answers.specs.declared.asking.Ask.{Ask}
+use Rattle.scitt_answers.specs.Asking.{ask_of, manner_of}
 use Rattle.scitt_answers.specs.Marks.{Mark, Step, Doing, asks, looks, Turned, TurnedTo}
-use Rattle.scitt_answers.specs.Exchanges.{ClockState, Reads, Misses, Asked, exchange_of, Refuses, Tells, AnswersBody, refuses_body, lacks_moment, registers, lacks_memory_to_read, lacks_memory_to_check}
+use Rattle.scitt_answers.specs.Exchanges.{ClockState, Reads, Misses, Asked, request, exchange_of, Refuses, Tells, AnswersAsk, Answers, AnswersBody, refuses_body, lacks_moment, registers, lacks_memory_to_read, lacks_memory_to_check}
 use Rattle.scitt_answers.specs.Holding.{NamesKey}
 use Rattle.scitt_answers.specs.Sessions.{Answered}
 
@@ -43,6 +47,15 @@ registered_size (outcome.KeyExhausted next capacity) size m = refl
 registered_size outcome.OutOfMemory size m = refl
 registered_size outcome.DiskFault size m = refl
 registered_size (outcome.Changed number) size m = refl
+
+-- what a reading tells of the moments, whatever its fault is
+pub ticks_given : (E : Type 0) (old new : Option (ℕ → Option ℕ)) (m : ℕ) → Ticks {E = E} old new (Ok m) → Ticks {E = Unit {0}} old new (Ok m)
+ticks_given E None new m h = tt
+ticks_given E (Some f) new m h = h
+
+pub ticks_missed : (E : Type 0) (old new : Option (ℕ → Option ℕ)) (e : E) → Ticks {E = E} old new (Err e) → Ticks {E = Unit {0}} old new (Err tt)
+ticks_missed E None new e h = tt
+ticks_missed E (Some f) new e h = h
 
 -- a key that was named is that of what was checked with it
 pub names_key : (key : Option (List ℕ)) (pair : Option (List ℕ × Bool)) → option_map (λ p. p.0) pair ≡ key → NamesKey key pair
@@ -146,3 +159,12 @@ module _ {tells : Bool} {begins begins' : Mark → Type 0} {follows mid last : M
   unchecked_told {a} {moment} {key} body s before after t u e of_body reads =
       two_turns a.size (λ steps. AnswersBody body m (exchange_of asked before after steps a)) t law u refl
       (lacks_memory_to_check (record { statement = s; of_body = of_body; moment = moment; clock = reads; key = key; steps = (refl, refl); answer = e }))
+
+-- an answer to what a request asks for is one to the request
+pub by_ask : {tells : Bool} {follows last : Mark → Mark → Type 0} {begins : Mark → Type 0} {size : ℕ} (q : Request) (a : Ask) (m : Manner) (is_last : Bool) (before after : ClockState) (answer : Answer)
+    → a ≡ ask_of q → m ≡ manner_of is_last q
+    → Answered tells follows begins last size (λ steps. AnswersAsk a q.body m (exchange_of (request q) before after steps answer))
+    → Answered tells follows begins last size (λ steps. Answers is_last (exchange_of (request q) before after steps answer) (request q))
+by_ask {tells} {follows} {last} {begins} {size} q a m is_last before after answer e f h =
+    subst (λ (n : Manner). Answered tells follows begins last size (λ steps. AnswersAsk (ask_of q) q.body n (exchange_of (request q) before after steps answer))) f
+    (subst (λ (b : Ask). Answered tells follows begins last size (λ steps. AnswersAsk b q.body m (exchange_of (request q) before after steps answer))) e h)

@@ -1,5 +1,5 @@
 use Rattle.scitt_answers.proofs.Sizes.{sizes_alone, sizes_among_others, size_at_exit, logs_begin_exit, faults_never_fall}
-use Rattle.scitt_answers.proofs.Judging.{answers_are_judged, taken_or_fails}
+use Rattle.scitt_answers.proofs.Judging.{answers_are_judged, good_is_taken}
 use Rattle.scitt_answers.proofs.laws.session_laws.Goals as goal
 
 pub returns : goal.returns
@@ -9,6 +9,6 @@ returns c = record {
   at_exit = size_at_exit;
   begin = logs_begin_exit;
   judged = answers_are_judged;
-  taken = taken_or_fails;
+  taken = good_is_taken c.statements_have_one_answer.ensures.one;
   faults = faults_never_fall;
 }
