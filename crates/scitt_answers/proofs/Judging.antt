@@ -66,25 +66,25 @@ judged_of S s m r e =
     (judge f.0 (entries_of S.log) s m, f.1, f.2)
 
 pub answers_are_judged : AnswersAreJudged
-answers_are_judged Tells old new s m (outcome.Known i receipt) manner h =
+answers_are_judged tells old new s m (outcome.Known i receipt) manner h =
     let j = judged_of old s m (knows i) h.1 in
-    inr (λ tells. ap (λ (x : Option Judgement). judged_answer old.log new.log m x manner) (j.1 ∙ ap (λ (x : Judgement). Some x) j.2)
-    ∙ ap (λ (x : Option (List ℕ)). receipt_answer 200 x i (length (entries_of new.log)) manner) (h.2 tells))
-answers_are_judged Tells old new s m (outcome.Denied rule size moment) manner h =
+    inr (λ told. ap (λ (x : Option Judgement). judged_answer old.log new.log m x manner) (j.1 ∙ ap (λ (x : Judgement). Some x) j.2)
+    ∙ ap (λ (x : Option (List ℕ)). receipt_answer 200 x i (length (entries_of new.log)) manner) (h.2 told))
+answers_are_judged tells old new s m (outcome.Denied rule size moment) manner h =
     let j = judged_of old s m (denies rule) h.1 in
     inr (ap (λ (x : Option Judgement). judged_answer old.log new.log m x manner) (j.1 ∙ ap (λ (x : Judgement). Some x) j.2)
     ∙ ap (λ (at : ℕ). Some (problem_answer (problem.Denied rule at) (length (entries_of new.log)) manner)) (sym h.3))
-answers_are_judged Tells old new s m (outcome.Admitted i receipt) manner h =
+answers_are_judged tells old new s m (outcome.Admitted i receipt) manner h =
     let j = judged_of old s m (goes h.0) h.1 in
     let found : receipt_of new.log (length (entries_of old.log)) ≡ Some receipt = ap (receipt_of new.log) (sym h.3) ∙ h.4 in
     inr (ap (λ (x : Option Judgement). judged_answer old.log new.log m x manner) (j.1 ∙ ap (λ (x : Judgement). Some x) j.2)
     ∙ ap (λ (x : Option (List ℕ)). receipt_answer 201 x (length (entries_of old.log)) (length (entries_of new.log)) manner) found
     ∙ ap (λ (n : ℕ). Some (registered_answer (outcome.Admitted n receipt) (length (entries_of new.log)) manner)) (sym h.3))
-answers_are_judged Tells old new s m outcome.DiskFault manner h = inl tt
-answers_are_judged Tells old new s m (outcome.LogFull entries bytes) manner h = inl tt
-answers_are_judged Tells old new s m (outcome.KeyExhausted next capacity) manner h = inl tt
-answers_are_judged Tells old new s m outcome.OutOfMemory manner h = inl tt
-answers_are_judged Tells old new s m (outcome.Changed number) manner h = inl tt
+answers_are_judged tells old new s m outcome.DiskFault manner h = inl tt
+answers_are_judged tells old new s m (outcome.LogFull entries bytes) manner h = inl tt
+answers_are_judged tells old new s m (outcome.KeyExhausted next most) manner h = inl tt
+answers_are_judged tells old new s m outcome.OutOfMemory manner h = inl tt
+answers_are_judged tells old new s m (outcome.Changed number) manner h = inl tt
 
 -- ---- what is good is taken
 
@@ -102,19 +102,19 @@ taken_or_fails Tells old new s m rule outcome.DiskFault h g = tt
 taken_or_fails Tells old new s m rule (outcome.Known i receipt) h g = let e : Some (knows i) ≡ Some (goes rule) = sym h.1 ∙ g in cc e
 taken_or_fails Tells old new s m rule (outcome.Denied deny size moment) h g = let e : Some (denies deny) ≡ Some (goes rule) = sym h.1 ∙ g in cc e
 taken_or_fails Tells old new s m rule (outcome.LogFull entries bytes) h g = let e : Some (full entries bytes) ≡ Some (goes rule) = sym h.1 ∙ g in cc e
-taken_or_fails Tells old new s m rule (outcome.KeyExhausted next capacity) h g = let e : Some (spent next capacity) ≡ Some (goes rule) = sym h.1 ∙ g in cc e
+taken_or_fails Tells old new s m rule (outcome.KeyExhausted next most) h g = let e : Some (spent next most) ≡ Some (goes rule) = sym h.1 ∙ g in cc e
 taken_or_fails Tells old new s m rule (outcome.Changed number) h g = let e : Some (knows h.0.0) ≡ Some (goes rule) = sym h.0.1 ∙ g in cc e
 
 -- an outcome of one that goes, on a disk whose count didn't rise
 outcome_taken : (o : Outcome) (a : Answer) (m : Manner) (before now : ℕ) → TakenOrFails o → IsFaultOf before now o → (Rose before now → ⊥) → a ≡ registered_answer o a.size m → IsTaken m a
-outcome_taken (outcome.Admitted i receipt) a m before now t f no e = taken i receipt e
-outcome_taken outcome.OutOfMemory a m before now t f no e = lacks_memory e
-outcome_taken outcome.DiskFault a m before now t f no e = absurd (no f)
-outcome_taken (outcome.Known i receipt) a m before now t f no e = absurd t
-outcome_taken (outcome.Denied deny size moment) a m before now t f no e = absurd t
-outcome_taken (outcome.LogFull entries bytes) a m before now t f no e = absurd t
-outcome_taken (outcome.KeyExhausted next capacity) a m before now t f no e = absurd t
-outcome_taken (outcome.Changed number) a m before now t f no e = absurd t
+outcome_taken (outcome.Admitted i receipt) a m before now t f holds e = taken i receipt e
+outcome_taken outcome.OutOfMemory a m before now t f holds e = lacks_memory e
+outcome_taken outcome.DiskFault a m before now t f holds e = absurd (holds f)
+outcome_taken (outcome.Known i receipt) a m before now t f holds e = absurd t
+outcome_taken (outcome.Denied deny size moment) a m before now t f holds e = absurd t
+outcome_taken (outcome.LogFull entries bytes) a m before now t f holds e = absurd t
+outcome_taken (outcome.KeyExhausted next most) a m before now t f holds e = absurd t
+outcome_taken (outcome.Changed number) a m before now t f holds e = absurd t
 
 step_taken : (tells : Bool) (t : Step) (said : Said) (moment rule : ℕ) (o : Outcome) (a : Answer) (m : Manner) → t.does ≡ asks (register_call said moment) (registered o) → IsStep tells t
     → ruling_of t.found.standing said moment ≡ Some (goes rule) → DiskHolds t → a ≡ registered_answer o a.size m → IsTaken m a

@@ -4,7 +4,7 @@ use Rattle.std.specs.Prelude.{flat_map, filter_map}
 use Rattle.std.proofs.lemmas.Grind.{flat_map-append}
 use Rattle.std.proofs.lemmas.List.Elements.{filter_map-append}
 use mathlib.Core.List.{IsPrefix}
-use base.Growing.{prefix_trans}
+use base.Growing.{prefix_refl, prefix_trans}
 use Rattle.statement.specs.Said.{Said}
 use Rattle.registrar.specs.declared.words.Outcome.{Outcome}
 use Rattle.registrar.specs.declared.words.Outcome.TheVariants as outcome
@@ -21,7 +21,7 @@ use Rattle.scitt_answers.specs.declared.replying.Manner.{Manner}
 use Rattle.scitt_answers.specs.Asking.{ask_of, manner_of}
 use Rattle.scitt_answers.specs.Exchanges.{Asked, request, refused, Exchange, EachIs, IsExchange, DoesOne, DoesTwo, AnswersAsk, AnswersBody, refuses_body, lacks_moment, registers, lacks_memory_to_read, lacks_memory_to_check, Answers}
 use Rattle.scitt_answers.specs.Sessions.{steps_in}
-use Rattle.scitt_answers.specs.Laws.{ChainAlone, ExitsAlone, FindAll, SizesFollow, SizesAlone, final_size, SizeAtExit, Begins, FindMore, SizesGrow, SizesAmongOthers, BeginIt, LogsBeginExit, FaultsNeverFall}
+use Rattle.scitt_answers.specs.Laws.{ChainAlone, ExitsAlone, FindAll, SizesFollow, SizesAlone, final_size, SizeAtExit, Begins, FindMore, SizesGrow, SizesAmongOthers, BeginIt, LogsBeginExit, LogsBeginSeen, FaultsNeverFall}
 use Rattle.scitt_answers.proofs.Joining.{chain_weaker}
 
 -- a registrar's turn leaves a log that begins with the one found
@@ -186,11 +186,22 @@ begins_exit tells R begins follows (s ∷ steps) exit law start are chain next =
     let found = prefix_trans R s.found.standing.log s.left.standing.log (start s.found chain.0) are.0.grows in
     begins_exit tells R (follows s.left) follows steps exit law (λ m h. prefix_trans R s.left.standing.log m.standing.log found (law s.left m h)) are.1 chain.1 next
 
-pub logs_begin_exit : LogsBeginExit
-logs_begin_exit tells begins follows [] exit law are chain next = tt
-logs_begin_exit tells begins follows (s ∷ steps) exit law are chain next =
+all_begin_exit : (tells : Bool) (begins : Mark → Type 0) (follows : Mark → Mark → Type 0) (steps : List Step) (exit : Mark)
+    → ((left next : Mark) → follows left next → Begins left next)
+    → AreSteps tells steps → Chain begins follows steps → Next begins follows steps exit → BeginIt exit.standing.log steps
+all_begin_exit tells begins follows [] exit law are chain next = tt
+all_begin_exit tells begins follows (s ∷ steps) exit law are chain next =
     let left = begins_exit tells s.left.standing.log (follows s.left) follows steps exit law (λ m h. law s.left m h) are.1 chain.1 next in
-    (prefix_trans s.found.standing.log s.left.standing.log exit.standing.log are.0.grows left, left, logs_begin_exit tells (follows s.left) follows steps exit law are.1 chain.1 next)
+    (prefix_trans s.found.standing.log s.left.standing.log exit.standing.log are.0.grows left, left, all_begin_exit tells (follows s.left) follows steps exit law are.1 chain.1 next)
+
+pub same_begins : (left next : Mark) → next ≡ left → Begins left next
+same_begins left next e = subst (λ (m : Mark). IsPrefix left.standing.log m.standing.log) (sym e) (prefix_refl left.standing.log)
+
+pub logs_begin_exit : LogsBeginExit
+logs_begin_exit tells start steps exit are chain next = all_begin_exit tells (λ m. m ≡ start) (λ left next. next ≡ left) steps exit same_begins are chain next
+
+pub logs_begin_seen : LogsBeginSeen
+logs_begin_seen tells seen steps exit are chain next = all_begin_exit tells (λ m. IsPrefix seen m.standing.log) Begins steps exit (λ left next h. h) are chain next
 
 pub rose_later : (before now : ℕ) → before < 2 ^ 64 → min (before + 1) (2 ^ 64 - 1) ≤ now → before ≤ now
 rose_later before now b r = omega (arith, b, r)

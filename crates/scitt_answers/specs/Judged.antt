@@ -1,5 +1,5 @@
 -- The answer to a registration, by the judgement of the log that its turn found.
-use Rattle.std.specs.Prelude.{◌≡◌, ℕ, ◌⊎◌, List, [], ◌∷◌, length, Bool, Option, None, Some}
+use Rattle.std.specs.Prelude.{◌≡◌, ℕ, ◌⊎◌, List, [], ◌∷◌, length, Bool, IsTrue, Option, None, Some}
 use Rattle.scitt_io.specs.Causes.{Rose}
 use Rattle.http_wire.specs.declared.request.Request.{Request}
 use Rattle.http_wire.specs.declared.answer.Answer.{Answer}
@@ -51,8 +51,8 @@ WhereTold Tells o Fact = Fact
 -- the answer to a registration is that of the judgement of the log found, or has a cause of its own
 abbrev pub AnswersAreJudged : Type 0
 AnswersAreJudged =
-    (Tells : Type 0) (old new : Standing) (s : Said) (m : ℕ) (o : Outcome) (manner : Manner) → Registers Tells old s m o new
-    → HasOwnCause o ⊎ WhereTold Tells o (judged_answer old.log new.log m (judgement_of old.log s m) manner ≡ Some (registered_answer o (length (entries_of new.log)) manner))
+    (tells : Bool) (old new : Standing) (s : Said) (m : ℕ) (o : Outcome) (manner : Manner) → Registers (IsTrue tells) old s m o new
+    → HasOwnCause o ⊎ WhereTold (IsTrue tells) o (judged_answer old.log new.log m (judgement_of old.log s m) manner ≡ Some (registered_answer o (length (entries_of new.log)) manner))
 
 -- ---- what is good is taken
 

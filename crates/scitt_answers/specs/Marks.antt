@@ -59,7 +59,7 @@ pub record Turned (tells : Bool) (begins : Mark → Type 0) (last : Mark → Mar
 -- and the log that it left has so many entries
 pub record TurnedTo (tells : Bool) (begins : Mark → Type 0) (last : Mark → Mark → Type 0) (does : Doing) (size : ℕ) : Type 0 where
   pub turned : Turned tells begins last does
-  pub size : size ≡ entries_at turned.left
+  pub leaves : size ≡ entries_at turned.left
 
 -- turns one after another: the first may begin here, and each next one at what may follow the one before
 abbrev pub Chain : (Mark → Type 0) → (Mark → Mark → Type 0) → List Step → Type 0

@@ -1,5 +1,5 @@
 // Laws of sessions.
-ghost use Rattle.scitt_answers.specs.Laws.{SizesAlone, SizesAmongOthers, SizeAtExit, LogsBeginExit, FaultsNeverFall};
+ghost use Rattle.scitt_answers.specs.Laws.{SizesAlone, SizesAmongOthers, SizeAtExit, LogsBeginExit, LogsBeginSeen, FaultsNeverFall};
 ghost use Rattle.scitt_answers.specs.Judged.{AnswersAreJudged, GoodIsTaken};
 
 use statement::statements_have_one_answer;
@@ -13,6 +13,7 @@ pub fn session_laws()
     ensures among_others { SizesAmongOthers }
     ensures at_exit { SizeAtExit }
     ensures begin { LogsBeginExit }
+    ensures begin_seen { LogsBeginSeen }
     ensures judged { AnswersAreJudged }
     ensures taken { GoodIsTaken }
     ensures faults { FaultsNeverFall }

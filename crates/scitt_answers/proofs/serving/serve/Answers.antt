@@ -7,9 +7,9 @@ use Rattle.scitt_answers.proofs.serving.serve.Goals as goal
 
 pub loop-number-init : goal.loop-number-init
 loop-number-init g c = record {
-  stop = ap (λ (w : Waiting). w.stop) c.in-Ok-new-2.ensures;
+  stop = ap (λ (w : Waiting). w.stop) c.in-Ok-new.ensures;
   ready = c.requires;
-  served = nothing_served [] (Consumes-nil _) (Appends-nil _) (tt, ap (λ (w : Waiting). w.held) c.in-Ok-new-2.ensures, refl);
+  served = nothing_served [] (Consumes-nil _) (Appends-nil _) (tt, ap (λ (w : Waiting). w.held) c.in-Ok-new.ensures, refl);
   same = g.met.T.Turns.same_self _;
   reads = refl;
   writes = refl;
@@ -18,8 +18,8 @@ loop-number-init g c = record {
 pub returns-in_default-clause-served : goal.returns-in_default-clause-served
 returns-in_default-clause-served g c = ([], nothing_served [] (Consumes-nil _) (Appends-nil _) tt)
 
-pub returns-in_default-2-clause-served : goal.returns-in_default-2-clause-served
-returns-in_default-2-clause-served g c = ([], nothing_served [] (Consumes-nil _) (Appends-nil _) tt)
+pub returns-in_default-new-clause-served : goal.returns-in_default-new-clause-served
+returns-in_default-new-clause-served g c = ([], nothing_served [] (Consumes-nil _) (Appends-nil _) tt)
 
 pub returns-in-Some-clause-served : goal.returns-in-Some-clause-served
 returns-in-Some-clause-served g c = (c.exchange.new.wire.held, served_anywhere (served_then c.loop-number.invariant.served c.in-Some.ensures.served))
