@@ -1,11 +1,16 @@
 -- The turns of a registrar on one thread.
 use Rattle.std.proofs.Common.{◌≡◌, ℕ, ◌<◌, ◌≤◌, ◌^◌, length, Bool, IsTrue, refl, sym, ap, subst}
 use mathlib.Core.List.{IsPrefix}
+use base.Growing.{prefix_refl}
 use Rattle.registrar.specs.Turns.{Standing, Call, Turn, IsSound}
 use Rattle.registrar.specs.Turns.{Answer as Reply}
 use Rattle.registrar.specs.Fits.{Registered}
 use Rattle.scitt_answers.specs.Marks.{Mark, Doing, asks, looks, mark_of, entries_at, FaultsIn, IsStep, Turned, TurnedTo}
 use Rattle.scitt_answers.proofs.Sizes.{same_begins}
+
+-- a log that stays begins with itself
+pub standing_grows : (old new : Standing) → new ≡ old → IsPrefix old.log new.log
+standing_grows old new e = subst (λ (S : Standing). IsPrefix old.log S.log) (sym e) (prefix_refl old.log)
 
 -- a call that left the log behind the one it found, with the disk's count as its reply says
 pub call_turned : {D : Type 0} {tells : Bool} {size : ℕ} (fault_count : D → ℕ) (old new : Registered D) (call : Call) (reply : Reply)
