@@ -14,6 +14,6 @@ mod turns;
 pub use asking::{Ask, Reading, ask_of};
 pub use gate::{Gate, NoGate};
 pub use problem::Problem;
-pub use routes::{Row, Target, find, new_router};
+pub use routes::{Row, Target, find, new_router, route_laws};
 pub use serving::SessionEnd;
 pub use turns::Turns;
