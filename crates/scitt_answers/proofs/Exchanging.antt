@@ -139,7 +139,17 @@ pub served_anywhere : {tells : Bool} {follows : Mark → Mark → Type 0} {numbe
     → Served tells follows number next b b' p p' held held' left left' taken taken' clock clock' (Some how)
     → Served tells follows number other b b' p p' held held' left left' taken taken' clock clock' (Some how)
 served_anywhere {number} {next} {other} {held'} {left'} {how} x = record {
-  es = x.es; bytes = x.bytes; rest = x.rest; read = x.read; asked = x.asked; each = x.each; chain = x.chain; next = x.next; latest = x.latest; untouched = x.untouched; clock_is = x.clock_is;
+  es = x.es;
+  bytes = x.bytes;
+  rest = x.rest;
+  read = x.read;
+  asked = x.asked;
+  each = x.each;
+  chain = x.chain;
+  next = x.next;
+  latest = x.latest;
+  untouched = x.untouched;
+  clock_is = x.clock_is;
   written = x.written;
   ends = ends_anywhere number next other x.es x.rest held' left' how x.ends;
 }
@@ -150,7 +160,17 @@ pub served_spent : {tells : Bool} {follows : Mark → Mark → Type 0} {b b' : M
     → Served tells follows 1 1001 b b' p p' held held' left left' taken taken' clock clock' None
     → Served tells follows 1 1001 b b' p p' held held' left left' taken taken' clock clock' (Some end.TurnsSpent)
 served_spent x = record {
-  es = x.es; bytes = x.bytes; rest = x.rest; read = x.read; asked = x.asked; each = x.each; chain = x.chain; next = x.next; latest = x.latest; untouched = x.untouched; clock_is = x.clock_is;
+  es = x.es;
+  bytes = x.bytes;
+  rest = x.rest;
+  read = x.read;
+  asked = x.asked;
+  each = x.each;
+  chain = x.chain;
+  next = x.next;
+  latest = x.latest;
+  untouched = x.untouched;
+  clock_is = x.clock_is;
   written = x.written;
   ends = (x.ends.0, sym x.ends.2);
 }

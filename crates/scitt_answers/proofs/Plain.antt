@@ -1,5 +1,5 @@
 -- A path that has a target by the routes alone is ASCII.
-use Rattle.std.proofs.Common.{◌≡◌, ℕ, suc, ◌+◌, ◌-◌, ◌<◌, ◌≤◌, ◌⊎◌, inl, inr, List, [], ◌∷◌, ◌++◌, length, take, drop, get_or, Bool, true, false, cond, ◌&&◌, ◌==◌, ltb, leb, Option, None, Some, refl, sym, ap, subst, ◌∙◌, arith, append_assoc, append-nil, length-append, ltb-true, lt-ltb, le-leb}
+use Rattle.std.proofs.Common.{◌≡◌, ℕ, suc, ◌+◌, ◌-◌, ◌<◌, ◌≤◌, ◌⊎◌, inl, inr, List, [], ◌∷◌, ◌++◌, length, take, drop, get_or, Bool, true, false, cond, ◌&&◌, ◌==◌, ltb, leb, Option, None, Some, refl, sym, ap, subst, ◌∙◌, arith, append-nil, length-append, ltb-true, lt-ltb, le-leb}
 use Rattle.std.specs.Prelude.{option_and_then, codes}
 use Rattle.std.specs.List.{list_all}
 use Rattle.std.specs.Char.{is_ascii, is_ascii_digit}
@@ -10,7 +10,7 @@ use Rattle.matchit.proofs.OnLiterals.{matchit_on_literals}
 use Rattle.matchit.specs.Rows.{RowsOf}
 use Rattle.matchit.specs.Seek.{first, segment, has_slash, slash, same_text}
 use Rattle.matchit.specs.Router.{RouteOf}
-use Rattle.matchit.specs.Params.{next_at, part_of, wild_from, wild_stop, named}
+use Rattle.matchit.specs.Params.{next_at, part_of, wild_from, wild_stop}
 use Rattle.scitt_answers.specs.declared.routes.Row.{Row}
 use Rattle.scitt_answers.specs.declared.routes.Row.TheVariants as row
 use Rattle.scitt_answers.specs.declared.routes.Target.{Target}

@@ -112,8 +112,7 @@ sizes_alone tells start number (e ∷ es) each chain =
     let P : Mark → Type 0 = λ m. m ≡ start in
     let follows : Mark → Mark → Type 0 = λ left next. next ≡ left in
     let front = chain_front P follows e.steps (steps_in es) chain in
-    let back = chain_weaker (λ m. m ≡ final_mark start e.steps) (Next P follows e.steps) follows (steps_in es) (next_alone start e.steps) (chain_back P follows e.steps (steps_in es) chain) in
-    (
+    let back = chain_weaker (λ m. m ≡ final_mark start e.steps) (Next P follows e.steps) follows (steps_in es) (next_alone start e.steps) (chain_back P follows e.steps (steps_in es) chain) in (
       find_all start e.steps front (answer_holds tells _ e e.asked each.0.turns each.0.answers),
       subst (λ (n : ℕ). SizesFollow n es) (sym (leaves_final start e.steps e.answer.size each.0.size)) (sizes_alone tells (final_mark start e.steps) (number + 1) es each.1 back),
     )
@@ -169,8 +168,7 @@ sizes_among_others tells seen number (e ∷ es) each chain =
     let final : Mark = final_mark (nowhere seen) e.steps in
     let front = chain_front P Begins e.steps (steps_in es) chain in
     let back = chain_weaker (λ m. IsPrefix final.standing.log m.standing.log) (Next P Begins e.steps) Begins (steps_in es)
-        (next_final seen (nowhere seen) e.steps e.answer.size each.0.size) (chain_back P Begins e.steps (steps_in es) chain) in
-    (
+    (next_final seen (nowhere seen) e.steps e.answer.size each.0.size) (chain_back P Begins e.steps (steps_in es) chain) in (
       find_more tells seen e.steps each.0.turns front,
       subst (λ (n : ℕ). SizesGrow n es) (sym (leaves_final (nowhere seen) e.steps e.answer.size each.0.size)) (sizes_among_others tells final.standing.log (number + 1) es each.1 back),
     )

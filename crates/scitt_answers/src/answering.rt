@@ -208,6 +208,14 @@ pub(crate) fn answer<T: Turns, C: Clock, G: Gate>(
     match ask_of(router, &request) {
         Ask::Refuse(problem) => refuse(room, turns, problem, manner),
         Ask::Read(reading) => read(alloc, room, turns, reading, manner),
-        Ask::Register => take(alloc, room, turns, clock, gate, request.body.as_slice(), manner),
+        Ask::Register => take(
+            alloc,
+            room,
+            turns,
+            clock,
+            gate,
+            request.body.as_slice(),
+            manner,
+        ),
     }
 }

@@ -1,5 +1,5 @@
 // The six routes, and the target of a path.
-ghost use Rattle.std.specs.Prelude.{◌≡◌, IfOk};
+ghost use Rattle.std.specs.Prelude.{◌≡◌, IfOk, IfErr};
 ghost use Rattle.std.specs.List.{list_all};
 ghost use Rattle.std.specs.Char.{is_ascii};
 ghost use Rattle.matchit.specs.Params.{AllText, walk};
@@ -33,9 +33,10 @@ pub enum Target {
     Nowhere,
 }
 
-/// The six routes.
+/// The six routes. It fails for want of memory alone.
 pub fn new_router(alloc: Global) -> Result<Router<Row>, InsertError>
-    ensures { IfOk result (λ router. router ≡ table) }
+    ensures routes { IfOk result (λ router. router ≡ table) }
+    ensures memory { IfErr result (λ why. why ≡ InsertError.OutOfMemory) }
 {
     let mut router = Router::new(alloc);
     router.insert("/entries", Row::Entries)?;

@@ -38,7 +38,7 @@ returns-in-Refused-clause-served g c =
     let a = refused_told g.T.Turns.follows asked (record { close = true; head_only = c.in-Refused.of_head }) clock _ c.refuse-answer.ensures.turned (rw c.head_problem.ensures at c.refuse-answer.ensures.answer) in
     let left = g.met.L.Link.left_kept _ _ c.write_response.ensures.keeps in
     elim c.match-write_response.branch [
-      in-Err w ↦ rw w.result-is (one_failed asked c.refuse-answer.result t.bytes (c.args.wire.now.held ++ t.bytes) a (g.met.T.Turns.follows_last _) (still_left _ _ _ t.bytes left t.taken) (t.gives, refl, refl) kept w.in-Err.ensures.front)
+      | in-Err w ↦ rw w.result-is (one_failed asked c.refuse-answer.result t.bytes (c.args.wire.now.held ++ t.bytes) a (g.met.T.Turns.follows_last _) (still_left _ _ _ t.bytes left t.taken) (t.gives, refl, refl) kept w.in-Err.ensures.front)
       | in-Ok-write_response w ↦ rw w.result-is (one_answered asked c.refuse-answer.result t.bytes (c.args.wire.now.held ++ t.bytes) a (g.met.T.Turns.follows_last _) (still_left _ _ _ t.bytes left t.taken) (t.gives, refl, refl) kept w.in-Ok-write_response.ensures.front (λ es h. h) (ends_in_one _ _ tt))
     ]
 
