@@ -1,5 +1,5 @@
 -- One exchange, or none, as a session.
-use Rattle.std.proofs.Common.{◌≡◌, ℕ, ◌+◌, ◌<◌, ◌≤◌, ◌⊎◌, List, [], ◌∷◌, ◌++◌, length, take, Bool, true, false, ◌==◌, Option, None, Some, Result, Ok, Err, refl, sym, ap, ◌∙◌, subst, arith, append-nil}
+use Rattle.std.proofs.Common.{◌≡◌, ℕ, ◌<◌, List, [], ◌∷◌, ◌++◌, length, take, Bool, ◌==◌, Option, None, Some, Ok, Err, refl, sym, subst, arith, append-nil}
 use Rattle.std.specs.Prelude.{⊤}
 use Rattle.std.proofs.lemmas.List.{take_all}
 use Rattle.std.specs.Io.KnownBytes.{Consumes, Appends}
@@ -9,9 +9,9 @@ use Rattle.http_wire.specs.declared.answer.Answer.{Answer}
 use Rattle.http_wire.specs.Answering.{answer_bytes}
 use Rattle.scitt_answers.specs.declared.serving.SessionEnd.{SessionEnd}
 use Rattle.scitt_answers.specs.declared.serving.SessionEnd.TheVariants as end
-use Rattle.scitt_answers.specs.Marks.{Mark, Step, Chain, Next, AreSteps, LeavesSize}
-use Rattle.scitt_answers.specs.Exchanges.{ClockState, Asked, Exchange, exchange_of, Answers, IsExchange}
-use Rattle.scitt_answers.specs.Sessions.{ReadsAsked, steps_in, text_of, Writes, Ends, EndsIn, LatestIs, Answered, Served}
+use Rattle.scitt_answers.specs.Marks.{Mark, Step, Next, LeavesSize}
+use Rattle.scitt_answers.specs.Exchanges.{ClockState, Asked, Exchange, exchange_of, Answers}
+use Rattle.scitt_answers.specs.Sessions.{ReadsAsked, text_of, Writes, Ends, EndsIn, LatestIs, Answered, Served}
 
 pub front_whole : {E : Type 0} (xs : List ℕ) (old new : Option (List ℕ)) → WritesFront {E = E} xs old new (Ok tt) → Appends old new xs
 front_whole xs old new w = let whole : w.count ≡ length xs = w.all.0 refl in subst (Appends old new) (take_all w.count xs (omega (arith, whole))) w.taken

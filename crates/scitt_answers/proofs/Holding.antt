@@ -1,11 +1,11 @@
 -- The turns of a registrar on one thread.
-use Rattle.std.proofs.Common.{◌≡◌, ℕ, ◌<◌, ◌≤◌, ◌^◌, length, Bool, IsTrue, refl, sym, ap, subst}
+use Rattle.std.proofs.Common.{◌≡◌, ℕ, Bool, IsTrue, refl, sym, subst}
 use mathlib.Core.List.{IsPrefix}
 use base.Growing.{prefix_refl}
 use Rattle.registrar.specs.Turns.{Standing, Call, Turn, IsSound}
 use Rattle.registrar.specs.Turns.{Answer as Reply}
 use Rattle.registrar.specs.Fits.{Registered}
-use Rattle.scitt_answers.specs.Marks.{Mark, Doing, asks, looks, mark_of, entries_at, FaultsIn, IsStep, Turned, TurnedTo}
+use Rattle.scitt_answers.specs.Marks.{asks, looks, mark_of, entries_at, FaultsIn, TurnedTo}
 use Rattle.scitt_answers.proofs.Sizes.{same_begins}
 
 -- a log that stays begins with itself

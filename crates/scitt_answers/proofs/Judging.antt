@@ -1,5 +1,5 @@
 -- The answer to a registration is that of its judgement.
-use Rattle.std.proofs.Common.{◌≡◌, ℕ, ◌+◌, ◌==◌, nat_lt, ◌⊎◌, inl, inr, List, [], ◌∷◌, length, Bool, true, false, IsTrue, Option, None, Some, Ok, Err, refl, sym, ap, ◌∙◌, subst}
+use Rattle.std.proofs.Common.{◌≡◌, ℕ, ◌==◌, nat_lt, inl, inr, List, [], ◌∷◌, length, Bool, true, false, IsTrue, Option, None, Some, Ok, Err, refl, sym, ap, ◌∙◌, subst}
 use Rattle.std.specs.Prelude.{option_map, unwrap_or}
 use Rattle.cbor_core.specs.Rows.{first_row}
 use Rattle.hss_keys.specs.Levels.{capacity}
@@ -12,14 +12,14 @@ use Rattle.statement.specs.Said.{Said, said_of}
 use Rattle.log_replay.specs.declared.parts.Header.{Header}
 use Rattle.log_replay.specs.declared.words.Judgement.{Judgement}
 use Rattle.log_replay.specs.declared.words.Judgement.TheVariants as judged
-use Rattle.log_replay.specs.Records.{Log, entries_of, header_of}
-use Rattle.log_replay.specs.Judging.{judge, judgement_of, moment_after}
+use Rattle.log_replay.specs.Records.{entries_of, header_of}
+use Rattle.log_replay.specs.Judging.{judge, judgement_of}
 use Rattle.log_replay.specs.Answers.{receipt_of}
 use Rattle.log_replay.specs.WellMade.{most_logged_bytes}
 use Rattle.registrar.specs.declared.words.Outcome.{Outcome}
 use Rattle.registrar.specs.declared.words.Outcome.TheVariants as outcome
 use Rattle.registrar.specs.Fits.{IsFaultOf}
-use Rattle.registrar.specs.Turns.{Standing, register_call, registered, Registers, Ruling, knows, denies, full, spent, goes, bytes_with, rows_of_room, ruling_on, ruling_of}
+use Rattle.registrar.specs.Turns.{Standing, register_call, registered, Registers, Ruling, knows, denies, full, spent, goes, bytes_with, ruling_on, ruling_of}
 use Rattle.http_wire.specs.declared.answer.Answer.{Answer}
 use Rattle.scitt_answers.specs.declared.problem.Problem.TheVariants as problem
 use Rattle.scitt_answers.specs.declared.replying.Manner.{Manner}
@@ -28,7 +28,7 @@ use Rattle.scitt_answers.specs.declared.asking.Ask.{Ask}
 use Rattle.scitt_answers.specs.declared.asking.Ask.TheVariants as ask
 use Rattle.scitt_answers.specs.Asking.{ask_of, manner_of}
 use Rattle.scitt_answers.specs.Marks.{Step, Doing, asks, DoneIn, FaultsIn, IsStep, AreSteps}
-use Rattle.scitt_answers.specs.Exchanges.{ClockState, Reads, request, Exchange, IsExchange, DoesTwo, AnswersAsk, AnswersBody, refuses_body, lacks_moment, registers, lacks_memory_to_read, lacks_memory_to_check, Answers}
+use Rattle.scitt_answers.specs.Exchanges.{ClockState, Reads, request, Exchange, DoesTwo, AnswersAsk, AnswersBody, refuses_body, lacks_moment, registers, lacks_memory_to_read, lacks_memory_to_check, Answers}
 use Rattle.scitt_answers.specs.Judged.{judged_answer, receipt_answer, AnswersAreJudged, OfLast, Goes, DiskHolds, IsTaken, taken, lacks_memory, GoodIsTaken}
 
 -- what a ruling says of the judgement

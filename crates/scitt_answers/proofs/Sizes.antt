@@ -1,25 +1,23 @@
 -- What the turns of a session find, and what its answers print.
-use Rattle.std.proofs.Common.{◌≡◌, ℕ, ◌+◌, ◌-◌, ◌^◌, ◌<◌, ◌≤◌, min, List, [], ◌∷◌, ◌++◌, length, map, Bool, IsTrue, Option, Some, None, Result, Ok, Err, refl, sym, ap, ◌∙◌, subst, arith, append_assoc, length-append}
+use Rattle.std.proofs.Common.{◌≡◌, ℕ, ◌+◌, ◌-◌, ◌^◌, ◌<◌, ◌≤◌, min, List, [], ◌∷◌, ◌++◌, length, Bool, IsTrue, Option, None, Ok, Err, refl, sym, ap, ◌∙◌, subst, arith, length-append}
 use Rattle.std.specs.Prelude.{flat_map, filter_map}
 use Rattle.std.proofs.lemmas.Grind.{flat_map-append}
 use Rattle.std.proofs.lemmas.List.Elements.{filter_map-append}
 use mathlib.Core.List.{IsPrefix}
 use base.Growing.{prefix_refl, prefix_trans}
 use Rattle.statement.specs.Said.{Said}
-use Rattle.registrar.specs.declared.words.Outcome.{Outcome}
 use Rattle.registrar.specs.declared.words.Outcome.TheVariants as outcome
-use Rattle.registrar.specs.declared.words.ReadBack.{ReadBack}
 use Rattle.registrar.specs.declared.words.ReadBack.TheVariants as stop
-use Rattle.registrar.specs.Turns.{Standing, Call, Turn, Turns, key_hint_call, hint, registered, read, made}
+use Rattle.registrar.specs.Turns.{Standing, Call, Turn, key_hint_call, hint, registered, read, made}
 use Rattle.registrar.specs.Turns.{Answer as Reply}
 use Rattle.registrar.specs.Histories.{LogsOnlyGrow, turn}
 use Rattle.log_replay.specs.Records.{Log, Record, entries_of, records_of, leaves_of, record_of, entries_in, entry_of}
-use Rattle.scitt_answers.specs.Marks.{Mark, Step, Doing, asks, looks, DoneIn, FaultsIn, IsStep, Chain, Next, AreSteps, LeavesSize, entries_at}
+use Rattle.scitt_answers.specs.Marks.{Mark, Step, Doing, asks, looks, DoneIn, Chain, Next, AreSteps, LeavesSize, entries_at}
 use Rattle.scitt_answers.specs.declared.asking.Ask.{Ask}
 use Rattle.scitt_answers.specs.declared.asking.Ask.TheVariants as ask
 use Rattle.scitt_answers.specs.declared.replying.Manner.{Manner}
 use Rattle.scitt_answers.specs.Asking.{ask_of, manner_of}
-use Rattle.scitt_answers.specs.Exchanges.{Asked, request, refused, Exchange, EachIs, IsExchange, DoesOne, DoesTwo, AnswersAsk, AnswersBody, refuses_body, lacks_moment, registers, lacks_memory_to_read, lacks_memory_to_check, Answers}
+use Rattle.scitt_answers.specs.Exchanges.{Asked, request, refused, Exchange, DoesOne, DoesTwo, AnswersAsk, AnswersBody, refuses_body, lacks_moment, registers, lacks_memory_to_read, lacks_memory_to_check, Answers}
 use Rattle.scitt_answers.specs.Sessions.{steps_in}
 use Rattle.scitt_answers.specs.Laws.{ChainAlone, ExitsAlone, FindAll, SizesFollow, SizesAlone, final_size, SizeAtExit, Begins, FindMore, SizesGrow, SizesAmongOthers, BeginIt, LogsBeginExit, LogsBeginSeen, FaultsNeverFall}
 use Rattle.scitt_answers.proofs.Joining.{chain_weaker}

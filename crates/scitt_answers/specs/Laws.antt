@@ -1,5 +1,5 @@
 -- Laws of sessions: what their turns find, and what their answers print.
-use Rattle.std.specs.Prelude.{◌≡◌, ℕ, ◌+◌, ◌^◌, ◌<◌, ◌≤◌, List, [], ◌∷◌, length, Bool}
+use Rattle.std.specs.Prelude.{◌≡◌, ℕ, ◌^◌, ◌<◌, ◌≤◌, List, [], ◌∷◌, length, Bool}
 use mathlib.Core.List.{IsPrefix}
 use Rattle.log_replay.specs.Records.{Log, entries_of}
 use Rattle.scitt_answers.specs.Marks.{Mark, Step, Doing, FaultsIn, Chain, Next, AreSteps, entries_at}

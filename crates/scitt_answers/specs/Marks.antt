@@ -1,5 +1,5 @@
 -- Turns on a registrar, as whoever makes them sees them.
-use Rattle.std.specs.Prelude.{◌≡◌, ℕ, ◌≤◌, List, [], ◌∷◌, length, Bool, IsTrue, Result, Option, None, Some}
+use Rattle.std.specs.Prelude.{◌≡◌, ℕ, List, [], ◌∷◌, length, Bool, IsTrue}
 use mathlib.Core.List.{IsPrefix}
 use Rattle.log_replay.specs.Records.{entries_of}
 use Rattle.registrar.specs.Turns.{Standing, Call, Turn, IsSound, registered, read, made, hint}

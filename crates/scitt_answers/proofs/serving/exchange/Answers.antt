@@ -1,4 +1,4 @@
-use Rattle.std.proofs.Common.{◌≡◌, ℕ, ◌+◌, ◌==◌, ◌++◌, [], inl, inr, refl, true}
+use Rattle.std.proofs.Common.{◌++◌, [], inl, inr, refl, true}
 use Rattle.std.proofs.KnownBytes.{Consumes-nil, Appends-nil}
 use Rattle.scitt_answers.specs.Exchanges.{ClockState, request, refused, state_of}
 use Rattle.scitt_answers.proofs.Told.{refused_told}

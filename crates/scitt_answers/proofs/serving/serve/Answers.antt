@@ -1,7 +1,7 @@
-use Rattle.std.proofs.Common.{◌≡◌, ℕ, [], refl, ap, ◌∙◌}
+use Rattle.std.proofs.Common.{[], refl, ap, ◌∙◌}
 use Rattle.std.proofs.KnownBytes.{Consumes-nil, Appends-nil}
 use Rattle.http_wire.specs.Taking.{Waiting}
-use Rattle.scitt_answers.proofs.Exchanging.{nothing_served, served_anywhere, served_spent}
+use Rattle.scitt_answers.proofs.Exchanging.{nothing_served, served_anywhere}
 use Rattle.scitt_answers.proofs.Joining.{served_then}
 use Rattle.scitt_answers.proofs.serving.serve.Goals as goal
 
