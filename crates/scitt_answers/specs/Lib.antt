@@ -1,0 +1,13 @@
+pub mod Holding
+pub mod Fits
+pub mod Routes
+pub mod RouteLaws
+pub mod Problems
+pub mod Statements
+pub mod Answers
+pub mod Asking
+pub mod Marks
+pub mod Exchanges
+pub mod Sessions
+pub mod Laws
+pub mod Judged
