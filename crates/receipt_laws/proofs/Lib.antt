@@ -1,2 +1,4 @@
 pub mod Lists
 pub mod Standing
+pub mod EntryParts
+pub mod Meaning

@@ -3,4 +3,4 @@
 
 mod laws;
 
-pub use laws::entries_were_admitted;
+pub use laws::{accepted_receipts_are_of_the_log, entries_were_admitted};
