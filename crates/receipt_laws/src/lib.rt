@@ -3,4 +3,7 @@
 
 mod laws;
 
-pub use laws::{accepted_receipts_are_of_the_log, entries_were_admitted};
+pub use laws::{
+    accepted_receipts_are_of_the_log, entries_have_receipts, entries_were_admitted,
+    own_receipts_are_accepted,
+};
