@@ -15,9 +15,10 @@ use Rattle.cbor_core.specs.Items.{uint_in, bytes_in, array_in, is_number, is_uin
 use Rattle.log_replay.specs.declared.parts.EntryParts.{EntryParts}
 use Rattle.log_replay.specs.Records.{entry_item, entry_in, entry_of_parts, parts_from, parts_of}
 use Rattle.relying_party.specs.Entries.{entry_bytes}
+use Rattle.log_replay.proofs.LoggedAgain.{from_then}
 use Rattle.receipt_laws.proofs.Lists.{some_is}
 use Rattle.receipt_laws.proofs.Items.{uint_is, bytes_is, array_is}
-use Rattle.receipt_laws.proofs.RecordBytes.{then_some, passed, first_passes}
+use Rattle.receipt_laws.proofs.RecordBytes.{passed, first_passes}
 
 by_parts : (at rule : Option ℕ) (logged : Option (List ℕ)) (p : EntryParts) → parts_from at rule logged ≡ Some p → (at ≡ Some p.at) × (rule ≡ Some p.rule) × (logged ≡ Some p.logged) × (p.rule ≤ 65535)
 by_parts None rule logged p e = cc
@@ -62,7 +63,7 @@ module _ (spelled : ItemIsSpelled) (text : SpelledIsText) (strict : SpelledIsStr
   by_item : (leaf : List ℕ) (p : EntryParts) (item : Item) → Spells Strict item leaf → entry_in item ≡ Some p → IsWritten leaf p
   unfolding entry_bytes
   by_item leaf p item spells e =
-      let found = then_some entry_of_parts (array_in item) p e in
+      let found = from_then entry_of_parts (array_in item) p e in
       let items = items_are found.0 p found.2 in
       let own = uint_item 1 ∷ uint_item p.at ∷ uint_item p.rule ∷ bytes_item p.logged ∷ [] in
       let is : item ≡ entry_item p.at p.rule p.logged = array_is item found.0 found.1 ∙ ap array_item items.0 in
@@ -80,5 +81,5 @@ module _ (spelled : ItemIsSpelled) (text : SpelledIsText) (strict : SpelledIsStr
   pub is_written : (leaf : List ℕ) (p : EntryParts) → IsBytes leaf → parts_of leaf ≡ Some p → IsWritten leaf p
   unfolding parts_of
   is_written leaf p fits e =
-      let found = then_some entry_in (strict_item leaf) p e in
+      let found = from_then entry_in (strict_item leaf) p e in
       by_item leaf p found.0 (spelled leaf found.0 fits found.1) found.2

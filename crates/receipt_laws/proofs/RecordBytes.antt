@@ -17,14 +17,11 @@ use Rattle.lms_tree.specs.declared.types.Level.{Level}
 use Rattle.log_replay.specs.declared.parts.Header.{Header}
 use Rattle.log_replay.specs.declared.parts.BatchParts.{BatchParts}
 use Rattle.log_replay.specs.Records.{Record, header_record, reserve_record, batch_record, most_body, record_of, record_in, record_of_parts, any_holder_in, levels_in, version, header_from, entries_array, batch_from}
+use Rattle.log_replay.proofs.LoggedAgain.{from_then}
 use Rattle.receipt_laws.proofs.Lists.{some_is}
 use Rattle.receipt_laws.proofs.Items.{bytes_is, text_is, array_is, EachSpelled, bytes_inside, array_inside}
 
 -- ---- steps that gave something
-
-pub then_some : {A B : Type 0} (f : A → Option B) (o : Option A) (y : B) → option_and_then f o ≡ Some y → (x : A) × (o ≡ Some x) × (f x ≡ Some y)
-then_some f None y e = cc
-then_some f (Some x) y e = (x, refl, e)
 
 pub passed : {A : Type 0} (t : Bool) (o : Option A) (x : A) → (if t then o else None) ≡ Some x → (t ≡ true) × (o ≡ Some x)
 passed true o x e = (refl, e)
@@ -140,13 +137,13 @@ one_more (x ∷ front) s all fits = (all.0, one_more front s all.1 fits)
 each_bytes : (room : ℕ) (front : List (List ℕ)) (items : List Item) (strings : List (List ℕ)) → AllBytes front → EachSpelled room items → each_onto bytes_in front items ≡ Some strings → AllBytes strings
 each_bytes room front [] strings all each e = subst AllBytes (some_is front strings e) all
 each_bytes room front (item ∷ items) strings all each e =
-    let step = then_some (λ s. each_onto bytes_in (front ++ s ∷ []) items) (bytes_in item) strings e in
+    let step = from_then (λ s. each_onto bytes_in (front ++ s ∷ []) items) (bytes_in item) strings e in
     let fits = bytes_inside room item step.0 each.0.0 each.0.1 step.1 each.0.2 in
     each_bytes room (front ++ step.0 ∷ []) items strings (one_more front step.0 all fits) each.1 step.2
 
 entries_bytes : (room : ℕ) (item : Item) (strings : List (List ℕ)) (text : List ℕ) → SpellsIn Strict (suc room) item text → IsBytes text → entries_array item ≡ Some strings → AllBytes strings
 entries_bytes room item strings text spelled fits e =
-    let array = then_some (each_onto bytes_in []) (array_in item) strings e in
+    let array = from_then (each_onto bytes_in []) (array_in item) strings e in
     each_bytes room [] array.0 strings tt (array_inside room item array.0 text spelled array.1 fits) array.2
 
 -- ---- a record
@@ -161,8 +158,8 @@ record IsRead (body : List ℕ) (r : Record) : Type 0 where
 is_read : (body : List ℕ) (r : Record) → record_of body ≡ Some r → IsRead body r
 unfolding record_of
 is_read body r e =
-    let whole = then_some record_in (strict_item body) r (in_room (nat_lt most_body (length body)) (option_and_then record_in (strict_item body)) r e) in
-    let parts = then_some record_of_parts (array_in whole.0) r whole.2 in
+    let whole = from_then record_in (strict_item body) r (in_room (nat_lt most_body (length body)) (option_and_then record_in (strict_item body)) r e) in
+    let parts = from_then record_of_parts (array_in whole.0) r whole.2 in
     record { item = whole.0; items = parts.0; read = whole.1; array = parts.1; says = parts.2 }
 
 pub first_passes : (test : Item → Bool) (item : Item) (items : List Item) → all_items test (item ∷ items) ≡ true → (test item ≡ true) × (all_items test items ≡ true)

@@ -1,5 +1,5 @@
 -- An entry of a well made log, when it was judged, and what was signed with it.
-use Rattle.std.proofs.Common.{◌≡◌, ℕ, ◌+◌, Bool, true, false, not, List, [], ◌∷◌, ◌++◌, length, take, drop, Option, None, Some, refl, sym, ap, ◌∙◌, subst, arith}
+use Rattle.std.proofs.Common.{◌≡◌, ℕ, ◌+◌, true, not, List, [], ◌∷◌, ◌++◌, length, take, drop, Option, None, Some, sym, ap, ◌∙◌, subst, arith}
 use Rattle.std.specs.Prelude.{slice_get, option_map, filter_map, flat_map}
 use Rattle.std.specs.Option.{option_or}
 use Rattle.std.proofs.lemmas.Option.{slice_get_within}
@@ -18,25 +18,13 @@ use Rattle.log_replay.specs.Judging.{judge}
 use Rattle.log_replay.specs.WellMade.{WellMade, failing_of, failing_by, failing_after, fails_by, has_shape, entries_failing, batch_rows, text_signed}
 use Rattle.log_replay.specs.Growth.{HeaderStays, HeaderIsFirst, EntryIsNew, NoIdTwice, EntriesAreLeaves, StandsAt, EntryHasHome}
 use Rattle.log_replay.specs.Laws.{OneLess, FrontsAreWellMade}
+use Rattle.log_replay.proofs.Fitting.{all_false, was_true, second_none, later_none}
 use Rattle.receipt_laws.specs.Standing.{WasAdmitted, EntriesWereAdmitted}
 use Rattle.receipt_laws.proofs.Lists.{some_is, one_is, take_more, split_at, take_front, at_seam}
-
-second_none : {A : Type 0} (a b : Option A) → option_or a b ≡ None → b ≡ None
-second_none None b e = e
-second_none (Some x) b e = cc
 
 never_some : (o : Option Failing) (f : Failing) → option_or o (Some f) ≡ None → ⊥
 never_some None f e = cc
 never_some (Some x) f e = cc
-
-was_true : (b : Bool) → not b ≡ false → b ≡ true
-was_true true e = refl
-was_true false e = cc
-
-last_row : {A : Type 0} (a b : Bool) (x y : A) → first_row ((a, x) ∷ (b, y) ∷ []) ≡ None → b ≡ false
-last_row true b x y e = cc
-last_row false true x y e = cc
-last_row false false x y e = refl
 
 -- ---- a Batch that fails no rule
 
@@ -58,11 +46,9 @@ is_signed : (P : Log) (h : Header) (body : List ℕ) (b : BatchParts) → header
     → hss_verifies h.key b.signature (text_signed h (leaves_of P ++ b.entries)) ≡ true
 unfolding failing_after
 is_signed P h body b headed reads none =
-    let form = first_row ((not (has_shape (Some (batch_record b))), fails_by why.Form) ∷ []) in
-    let after : failing_after P (Some h) (Some (batch_record b)) ≡ None =
-    subst (λ (k : Option Header). failing_after P k (Some (batch_record b)) ≡ None) headed (second_none form (failing_after P (header_of P) (Some (batch_record b))) (by_record P body b reads none)) in
-    let rows : first_row (batch_rows h P b) ≡ None = second_none (entries_failing h (entries_of P) b.entries) (first_row (batch_rows h P b)) after in
-    was_true _ (last_row _ _ _ _ rows)
+    let after : failing_after P (Some h) (Some (batch_record b)) ≡ None = (later_none P h body (batch_record b) headed reads none).1 in
+    let rows = all_false (batch_rows h P b) (second_none (entries_failing h (entries_of P) b.entries) (first_row (batch_rows h P b)) after) in
+    was_true _ rows.1.0
 
 -- ---- the log before it, and with it
 
