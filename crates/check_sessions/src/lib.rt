@@ -7,6 +7,8 @@ mod faults;
 #[cfg(test)]
 mod heads;
 #[cfg(test)]
+mod large;
+#[cfg(test)]
 mod life;
 mod talking;
 

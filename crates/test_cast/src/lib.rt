@@ -7,7 +7,7 @@ mod telling;
 
 pub use making::{
     Cast, POLICY, Said, begun, document, fresh, genesis, holder, issued, levels, new_cast, params,
-    ruled, signed,
+    ruled, signed, signed_over,
 };
 pub use seats::registers;
 pub use telling::{admission, answer, digest, read_back, told};

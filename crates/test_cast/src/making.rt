@@ -120,7 +120,7 @@ fn signature(
     protected: &[u8],
     payload: &[u8],
 ) -> Result<Vec<u8>, Fail> {
-    if index >= signer.capacity() || protected.len() > 4096 || payload.len() > 4096 {
+    if index >= signer.capacity() || protected.len() > 4096 || payload.len() > 1_000_000 {
         return Err("no such signature".into());
     }
     let mut text = vec![in alloc; 0; to_be_signed_len(protected, payload)]?;
@@ -140,11 +140,22 @@ pub fn signed(
     payload: &[u8],
 ) -> Result<Bytes, Fail> {
     let protected = protected(alloc, said)?;
-    let signature = signature(alloc, signer, index, &protected, payload)?;
+    signed_over(alloc, signer, index, &protected, payload)
+}
+
+/// The bytes of a statement with these protected bytes, that is signed at this index.
+pub fn signed_over(
+    alloc: Global,
+    signer: &mut Signer,
+    index: u64,
+    protected: &[u8],
+    payload: &[u8],
+) -> Result<Bytes, Fail> {
+    let signature = signature(alloc, signer, index, protected, payload)?;
     let unprotected = Item {
         node: Node::Map(Items::new(alloc)),
     };
-    match cose_sign1::encode(alloc, &protected, &unprotected, Some(payload), &signature) {
+    match cose_sign1::encode(alloc, protected, &unprotected, Some(payload), &signature) {
         Ok(bytes) => Ok(bytes),
         Err(_) => Err("no statement".into()),
     }
