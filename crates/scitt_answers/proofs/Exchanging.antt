@@ -1,5 +1,5 @@
 -- One exchange, or none, as a session.
-use Rattle.std.proofs.Common.{◌≡◌, ℕ, ◌+◌, ◌<◌, ◌≤◌, ◌⊎◌, List, [], ◌∷◌, ◌++◌, length, take, Bool, true, false, ◌==◌, Option, None, Some, Result, Ok, Err, refl, sym, ap, ◌∙◌, subst, arith, append-nil}
+use Rattle.std.proofs.Common.{◌≡◌, ℕ, ◌<◌, List, [], ◌∷◌, ◌++◌, length, take, Bool, ◌==◌, Option, None, Some, Ok, Err, refl, sym, subst, arith, append-nil}
 use Rattle.std.specs.Prelude.{⊤}
 use Rattle.std.proofs.lemmas.List.{take_all}
 use Rattle.std.specs.Io.KnownBytes.{Consumes, Appends}
@@ -9,9 +9,9 @@ use Rattle.http_wire.specs.declared.answer.Answer.{Answer}
 use Rattle.http_wire.specs.Answering.{answer_bytes}
 use Rattle.scitt_answers.specs.declared.serving.SessionEnd.{SessionEnd}
 use Rattle.scitt_answers.specs.declared.serving.SessionEnd.TheVariants as end
-use Rattle.scitt_answers.specs.Marks.{Mark, Step, Chain, Next, AreSteps, LeavesSize}
-use Rattle.scitt_answers.specs.Exchanges.{ClockState, Asked, Exchange, exchange_of, Answers, IsExchange}
-use Rattle.scitt_answers.specs.Sessions.{ReadsAsked, steps_in, text_of, Writes, Ends, EndsIn, LatestIs, Answered, Served}
+use Rattle.scitt_answers.specs.Marks.{Mark, Step, Next, LeavesSize}
+use Rattle.scitt_answers.specs.Exchanges.{ClockState, Asked, Exchange, exchange_of, Answers}
+use Rattle.scitt_answers.specs.Sessions.{ReadsAsked, text_of, Writes, Ends, EndsIn, LatestIs, Answered, Served}
 
 pub front_whole : {E : Type 0} (xs : List ℕ) (old new : Option (List ℕ)) → WritesFront {E = E} xs old new (Ok tt) → Appends old new xs
 front_whole xs old new w = let whole : w.count ≡ length xs = w.all.0 refl in subst (Appends old new) (take_all w.count xs (omega (arith, whole))) w.taken
@@ -57,14 +57,14 @@ AnsweredTo tells follows begins last number asked clock clock' answer =
     Answered tells follows begins last answer.size (λ steps. Answers (number == 1000) (exchange_of asked clock clock' steps answer) asked)
 
 pub one_served : {tells : Bool} {follows : Mark → Mark → Type 0} {number number' : ℕ} {begins begins' : Mark → Type 0} {before last : Mark → Mark → Type 0} {held held' : List ℕ}
-    {left left' taken taken' : Option (List ℕ)} {clock clock' : ClockState} {how : Option SessionEnd} {asked : Asked} {answer : Answer} (bytes rest : List ℕ)
+    {left left' taken taken' : Option (List ℕ)} {clock clock' : ClockState} {how : Option SessionEnd} (asked : Asked) (answer : Answer) (bytes rest : List ℕ)
     → (a : AnsweredTo tells follows begins last number asked clock clock' answer)
     → ((found left next : Mark) → last found left → begins' next → follows left next)
     → Consumes left left' bytes → ReadsAsked (held ++ bytes) (asked ∷ []) rest
     → Writes (exchange_of asked clock clock' a.steps answer ∷ []) taken taken' how
     → Ends number number' (exchange_of asked clock clock' a.steps answer ∷ []) rest held' left' how
     → Served tells follows number number' begins begins' before last held held' left left' taken taken' clock clock' how
-one_served {tells} {follows} {number} {begins} {begins'} {last} {clock} {clock'} {asked} {answer} bytes rest a law read reads written ends = record {
+one_served {tells} {follows} {number} {begins} {begins'} {last} {clock} {clock'} asked answer bytes rest a law read reads written ends = record {
   es = exchange_of asked clock clock' a.steps answer ∷ [];
   bytes = bytes;
   rest = rest;
@@ -100,18 +100,18 @@ pub still_left : (left mid new : Option (List ℕ)) (bytes : List ℕ) → new �
 still_left left mid new bytes e h = subst (λ (x : Option (List ℕ)). Consumes left x bytes) (sym e) h
 
 pub one_failed : {E : Type 0} {tells : Bool} {follows : Mark → Mark → Type 0} {number number' : ℕ} {begins begins' : Mark → Type 0} {before last : Mark → Mark → Type 0} {held held' : List ℕ}
-    {left left' taken mid taken' : Option (List ℕ)} {clock clock' : ClockState} {asked : Asked} {answer : Answer} {d : E} (bytes rest : List ℕ)
+    {left left' taken mid taken' : Option (List ℕ)} {clock clock' : ClockState} {d : E} (asked : Asked) (answer : Answer) (bytes rest : List ℕ)
     → (a : AnsweredTo tells follows begins last number asked clock clock' answer)
     → ((found left next : Mark) → last found left → begins' next → follows left next)
     → Consumes left left' bytes → ReadsAsked (held ++ bytes) (asked ∷ []) rest
     → mid ≡ taken → WritesFront (answer_bytes answer) mid taken' (Err d)
     → Served tells follows number number' begins begins' before last held held' left left' taken taken' clock clock' (Some end.WriteFault)
-one_failed {taken} {mid} {taken'} {clock} {clock'} {asked} {answer} {d} bytes rest a law read reads same w =
+one_failed {taken} {mid} {taken'} {clock} {clock'} {d} asked answer bytes rest a law read reads same w =
     let e : Exchange = exchange_of asked clock clock' a.steps answer in
-    one_served bytes rest a law read reads (one_part e taken mid taken' d same w) (ends_in_one e (λ _. ⊤) tt)
+    one_served asked answer bytes rest a law read reads (one_part e taken mid taken' d same w) (ends_in_one e (λ _. ⊤) tt)
 
 pub one_answered : {E : Type 0} {tells : Bool} {follows : Mark → Mark → Type 0} {number number' : ℕ} {begins begins' : Mark → Type 0} {before last : Mark → Mark → Type 0} {held held' : List ℕ}
-    {left left' taken mid taken' : Option (List ℕ)} {clock clock' : ClockState} {asked : Asked} {answer : Answer} {how : Option SessionEnd} (bytes rest : List ℕ)
+    {left left' taken mid taken' : Option (List ℕ)} {clock clock' : ClockState} {how : Option SessionEnd} (asked : Asked) (answer : Answer) (bytes rest : List ℕ)
     → (a : AnsweredTo tells follows begins last number asked clock clock' answer)
     → ((found left next : Mark) → last found left → begins' next → follows left next)
     → Consumes left left' bytes → ReadsAsked (held ++ bytes) (asked ∷ []) rest
@@ -119,9 +119,9 @@ pub one_answered : {E : Type 0} {tells : Bool} {follows : Mark → Mark → Type
     → ((es : List Exchange) → Appends taken taken' (text_of es) → Writes es taken taken' how)
     → Ends number number' (exchange_of asked clock clock' a.steps answer ∷ []) rest held' left' how
     → Served tells follows number number' begins begins' before last held held' left left' taken taken' clock clock' how
-one_answered {taken} {mid} {taken'} {clock} {clock'} {asked} {answer} bytes rest a law read reads same w whole ends =
+one_answered {taken} {mid} {taken'} {clock} {clock'} asked answer bytes rest a law read reads same w whole ends =
     let e : Exchange = exchange_of asked clock clock' a.steps answer in
-    one_served bytes rest a law read reads (whole (e ∷ []) (one_whole e taken mid taken' same w)) ends
+    one_served asked answer bytes rest a law read reads (whole (e ∷ []) (one_whole e taken mid taken' same w)) ends
 
 -- an end doesn't say which request comes next
 pub ends_anywhere : (number next other : ℕ) (es : List Exchange) (rest held : List ℕ) (left : Option (List ℕ)) (how : SessionEnd)
@@ -139,7 +139,17 @@ pub served_anywhere : {tells : Bool} {follows : Mark → Mark → Type 0} {numbe
     → Served tells follows number next b b' p p' held held' left left' taken taken' clock clock' (Some how)
     → Served tells follows number other b b' p p' held held' left left' taken taken' clock clock' (Some how)
 served_anywhere {number} {next} {other} {held'} {left'} {how} x = record {
-  es = x.es; bytes = x.bytes; rest = x.rest; read = x.read; asked = x.asked; each = x.each; chain = x.chain; next = x.next; latest = x.latest; untouched = x.untouched; clock_is = x.clock_is;
+  es = x.es;
+  bytes = x.bytes;
+  rest = x.rest;
+  read = x.read;
+  asked = x.asked;
+  each = x.each;
+  chain = x.chain;
+  next = x.next;
+  latest = x.latest;
+  untouched = x.untouched;
+  clock_is = x.clock_is;
   written = x.written;
   ends = ends_anywhere number next other x.es x.rest held' left' how x.ends;
 }
@@ -150,7 +160,17 @@ pub served_spent : {tells : Bool} {follows : Mark → Mark → Type 0} {b b' : M
     → Served tells follows 1 1001 b b' p p' held held' left left' taken taken' clock clock' None
     → Served tells follows 1 1001 b b' p p' held held' left left' taken taken' clock clock' (Some end.TurnsSpent)
 served_spent x = record {
-  es = x.es; bytes = x.bytes; rest = x.rest; read = x.read; asked = x.asked; each = x.each; chain = x.chain; next = x.next; latest = x.latest; untouched = x.untouched; clock_is = x.clock_is;
+  es = x.es;
+  bytes = x.bytes;
+  rest = x.rest;
+  read = x.read;
+  asked = x.asked;
+  each = x.each;
+  chain = x.chain;
+  next = x.next;
+  latest = x.latest;
+  untouched = x.untouched;
+  clock_is = x.clock_is;
   written = x.written;
   ends = (x.ends.0, sym x.ends.2);
 }

@@ -98,8 +98,7 @@ takes : {K : Type 0} (rs : RowsOf K) (path : List ℕ) (long slashed : Bool) (t 
     → has_slash path ≡ slashed
     → IsRow (step_by rs path long slashed).1 t k → Takes path (step_by rs path long slashed).0 × IsRow rs t k
 takes rs path true slashed t k some f e a =
-    let less = f refl in
-    (
+    let less = f refl in (
       record {
         some = omega (arith, less.1);
         within = omega (arith, segment_short path);

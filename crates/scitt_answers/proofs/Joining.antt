@@ -1,5 +1,5 @@
 -- Exchanges one after another are a session.
-use Rattle.std.proofs.Common.{◌≡◌, ℕ, suc, ◌+◌, ◌<◌, ◌≤◌, ◌⊎◌, inl, inr, List, [], ◌∷◌, ◌++◌, length, map, take, Bool, true, false, Option, None, Some, refl, sym, ap, ◌∙◌, subst, arith, append_assoc, append-nil, length-append}
+use Rattle.std.proofs.Common.{◌≡◌, ℕ, suc, ◌+◌, inl, inr, List, [], ◌∷◌, ◌++◌, length, take, Bool, Option, None, Some, refl, sym, ap, ◌∙◌, subst, arith, append_assoc, append-nil, length-append}
 use Rattle.std.proofs.lemmas.List.{map-append}
 use Rattle.std.proofs.KnownBytes.{Consumes-trans, Appends-trans}
 use Rattle.std.proofs.lemmas.Grind.{flat_map-append}
@@ -95,12 +95,11 @@ take_past (x ∷ xs) ys n = ap (λ (k : ℕ). take k (x ∷ (xs ++ ys))) (let e 
 
 pub writes_then : (es fs : List Exchange) (taken taken' taken'' : Option (List ℕ)) (how : Option SessionEnd)
     → Appends taken taken' (text_of es) → Writes fs taken' taken'' how → Writes (es ++ fs) taken taken'' how
-writes_then es fs taken taken' taken'' (Some end.WriteFault) h k =
-    (
-      length (text_of es) + k.0,
-      rw text_then (omega (arith, length-append (text_of es) (text_of fs), k.1)),
-      rw (text_then, take_past) (Appends-trans _ _ _ _ _ h k.2),
-    )
+writes_then es fs taken taken' taken'' (Some end.WriteFault) h k = (
+  length (text_of es) + k.0,
+  rw text_then (omega (arith, length-append (text_of es) (text_of fs), k.1)),
+  rw (text_then, take_past) (Appends-trans _ _ _ _ _ h k.2),
+)
 writes_then es fs taken taken' taken'' None h k = rw text_then (Appends-trans _ _ _ _ _ h k)
 writes_then es fs taken taken' taken'' (Some end.Ended) h k = rw text_then (Appends-trans _ _ _ _ _ h k)
 writes_then es fs taken taken' taken'' (Some end.CutShort) h k = rw text_then (Appends-trans _ _ _ _ _ h k)

@@ -1,27 +1,25 @@
 -- What the turns of a session find, and what its answers print.
-use Rattle.std.proofs.Common.{◌≡◌, ℕ, ◌+◌, ◌-◌, ◌^◌, ◌<◌, ◌≤◌, min, List, [], ◌∷◌, ◌++◌, length, map, Bool, IsTrue, Option, Some, None, Result, Ok, Err, refl, sym, ap, ◌∙◌, subst, arith, append_assoc, length-append}
+use Rattle.std.proofs.Common.{◌≡◌, ℕ, ◌+◌, ◌-◌, ◌^◌, ◌<◌, ◌≤◌, min, List, [], ◌∷◌, ◌++◌, length, Bool, IsTrue, Option, None, Ok, Err, refl, sym, ap, ◌∙◌, subst, arith, length-append}
 use Rattle.std.specs.Prelude.{flat_map, filter_map}
 use Rattle.std.proofs.lemmas.Grind.{flat_map-append}
 use Rattle.std.proofs.lemmas.List.Elements.{filter_map-append}
 use mathlib.Core.List.{IsPrefix}
-use base.Growing.{prefix_trans}
+use base.Growing.{prefix_refl, prefix_trans}
 use Rattle.statement.specs.Said.{Said}
-use Rattle.registrar.specs.declared.words.Outcome.{Outcome}
 use Rattle.registrar.specs.declared.words.Outcome.TheVariants as outcome
-use Rattle.registrar.specs.declared.words.ReadBack.{ReadBack}
 use Rattle.registrar.specs.declared.words.ReadBack.TheVariants as stop
-use Rattle.registrar.specs.Turns.{Standing, Call, Turn, Turns, key_hint_call, hint, registered, read, made}
+use Rattle.registrar.specs.Turns.{Standing, Call, Turn, key_hint_call, hint, registered, read, made}
 use Rattle.registrar.specs.Turns.{Answer as Reply}
 use Rattle.registrar.specs.Histories.{LogsOnlyGrow, turn}
 use Rattle.log_replay.specs.Records.{Log, Record, entries_of, records_of, leaves_of, record_of, entries_in, entry_of}
-use Rattle.scitt_answers.specs.Marks.{Mark, Step, Doing, asks, looks, DoneIn, FaultsIn, IsStep, Chain, Next, AreSteps, LeavesSize, entries_at}
+use Rattle.scitt_answers.specs.Marks.{Mark, Step, Doing, asks, looks, DoneIn, Chain, Next, AreSteps, LeavesSize, entries_at}
 use Rattle.scitt_answers.specs.declared.asking.Ask.{Ask}
 use Rattle.scitt_answers.specs.declared.asking.Ask.TheVariants as ask
 use Rattle.scitt_answers.specs.declared.replying.Manner.{Manner}
 use Rattle.scitt_answers.specs.Asking.{ask_of, manner_of}
-use Rattle.scitt_answers.specs.Exchanges.{Asked, request, refused, Exchange, EachIs, IsExchange, DoesOne, DoesTwo, AnswersAsk, AnswersBody, refuses_body, lacks_moment, registers, lacks_memory_to_read, lacks_memory_to_check, Answers}
+use Rattle.scitt_answers.specs.Exchanges.{Asked, request, refused, Exchange, DoesOne, DoesTwo, AnswersAsk, AnswersBody, refuses_body, lacks_moment, registers, lacks_memory_to_read, lacks_memory_to_check, Answers}
 use Rattle.scitt_answers.specs.Sessions.{steps_in}
-use Rattle.scitt_answers.specs.Laws.{ChainAlone, ExitsAlone, FindAll, SizesFollow, SizesAlone, final_size, SizeAtExit, Begins, FindMore, SizesGrow, SizesAmongOthers, BeginIt, LogsBeginExit, FaultsNeverFall}
+use Rattle.scitt_answers.specs.Laws.{ChainAlone, ExitsAlone, FindAll, SizesFollow, SizesAlone, final_size, SizeAtExit, Begins, FindMore, SizesGrow, SizesAmongOthers, BeginIt, LogsBeginExit, LogsBeginSeen, FaultsNeverFall}
 use Rattle.scitt_answers.proofs.Joining.{chain_weaker}
 
 -- a registrar's turn leaves a log that begins with the one found
@@ -112,8 +110,7 @@ sizes_alone tells start number (e ∷ es) each chain =
     let P : Mark → Type 0 = λ m. m ≡ start in
     let follows : Mark → Mark → Type 0 = λ left next. next ≡ left in
     let front = chain_front P follows e.steps (steps_in es) chain in
-    let back = chain_weaker (λ m. m ≡ final_mark start e.steps) (Next P follows e.steps) follows (steps_in es) (next_alone start e.steps) (chain_back P follows e.steps (steps_in es) chain) in
-    (
+    let back = chain_weaker (λ m. m ≡ final_mark start e.steps) (Next P follows e.steps) follows (steps_in es) (next_alone start e.steps) (chain_back P follows e.steps (steps_in es) chain) in (
       find_all start e.steps front (answer_holds tells _ e e.asked each.0.turns each.0.answers),
       subst (λ (n : ℕ). SizesFollow n es) (sym (leaves_final start e.steps e.answer.size each.0.size)) (sizes_alone tells (final_mark start e.steps) (number + 1) es each.1 back),
     )
@@ -169,8 +166,7 @@ sizes_among_others tells seen number (e ∷ es) each chain =
     let final : Mark = final_mark (nowhere seen) e.steps in
     let front = chain_front P Begins e.steps (steps_in es) chain in
     let back = chain_weaker (λ m. IsPrefix final.standing.log m.standing.log) (Next P Begins e.steps) Begins (steps_in es)
-        (next_final seen (nowhere seen) e.steps e.answer.size each.0.size) (chain_back P Begins e.steps (steps_in es) chain) in
-    (
+    (next_final seen (nowhere seen) e.steps e.answer.size each.0.size) (chain_back P Begins e.steps (steps_in es) chain) in (
       find_more tells seen e.steps each.0.turns front,
       subst (λ (n : ℕ). SizesGrow n es) (sym (leaves_final (nowhere seen) e.steps e.answer.size each.0.size)) (sizes_among_others tells final.standing.log (number + 1) es each.1 back),
     )
@@ -186,11 +182,22 @@ begins_exit tells R begins follows (s ∷ steps) exit law start are chain next =
     let found = prefix_trans R s.found.standing.log s.left.standing.log (start s.found chain.0) are.0.grows in
     begins_exit tells R (follows s.left) follows steps exit law (λ m h. prefix_trans R s.left.standing.log m.standing.log found (law s.left m h)) are.1 chain.1 next
 
-pub logs_begin_exit : LogsBeginExit
-logs_begin_exit tells begins follows [] exit law are chain next = tt
-logs_begin_exit tells begins follows (s ∷ steps) exit law are chain next =
+all_begin_exit : (tells : Bool) (begins : Mark → Type 0) (follows : Mark → Mark → Type 0) (steps : List Step) (exit : Mark)
+    → ((left next : Mark) → follows left next → Begins left next)
+    → AreSteps tells steps → Chain begins follows steps → Next begins follows steps exit → BeginIt exit.standing.log steps
+all_begin_exit tells begins follows [] exit law are chain next = tt
+all_begin_exit tells begins follows (s ∷ steps) exit law are chain next =
     let left = begins_exit tells s.left.standing.log (follows s.left) follows steps exit law (λ m h. law s.left m h) are.1 chain.1 next in
-    (prefix_trans s.found.standing.log s.left.standing.log exit.standing.log are.0.grows left, left, logs_begin_exit tells (follows s.left) follows steps exit law are.1 chain.1 next)
+    (prefix_trans s.found.standing.log s.left.standing.log exit.standing.log are.0.grows left, left, all_begin_exit tells (follows s.left) follows steps exit law are.1 chain.1 next)
+
+pub same_begins : (left next : Mark) → next ≡ left → Begins left next
+same_begins left next e = subst (λ (m : Mark). IsPrefix left.standing.log m.standing.log) (sym e) (prefix_refl left.standing.log)
+
+pub logs_begin_exit : LogsBeginExit
+logs_begin_exit tells start steps exit are chain next = all_begin_exit tells (λ m. m ≡ start) (λ left next. next ≡ left) steps exit same_begins are chain next
+
+pub logs_begin_seen : LogsBeginSeen
+logs_begin_seen tells seen steps exit are chain next = all_begin_exit tells (λ m. IsPrefix seen m.standing.log) Begins steps exit (λ left next h. h) are chain next
 
 pub rose_later : (before now : ℕ) → before < 2 ^ 64 → min (before + 1) (2 ^ 64 - 1) ≤ now → before ≤ now
 rose_later before now b r = omega (arith, b, r)

@@ -1,5 +1,5 @@
 -- What a request asks for.
-use Rattle.std.specs.Prelude.{ℕ, Bool, true, false, ◌||◌}
+use Rattle.std.specs.Prelude.{Bool, true, false, ◌||◌}
 use Rattle.http_wire.specs.declared.answer.Allow.TheVariants as allow
 use Rattle.http_wire.specs.declared.request.Request.{Request}
 use Rattle.http_wire.specs.declared.request.Method.{Method}

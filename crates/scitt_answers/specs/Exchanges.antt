@@ -1,5 +1,5 @@
 -- A request, or a head that is refused, with its answer, and the turns that were made for it.
-use Rattle.std.specs.Prelude.{◌≡◌, ℕ, ◌+◌, ◌≤◌, ◌⊎◌, List, [], ◌∷◌, Bool, true, false, ◌==◌, Result, Ok, Err, Option, None, Some, is_some}
+use Rattle.std.specs.Prelude.{◌≡◌, ℕ, ◌+◌, List, [], ◌∷◌, Bool, true, ◌==◌, Ok, Err, Option, Some, is_some}
 use Rattle.scitt_io.specs.Causes.{Rose}
 use Rattle.scitt_io.specs.Moments.{Ticks}
 use Rattle.http_wire.specs.declared.request.Request.{Request}

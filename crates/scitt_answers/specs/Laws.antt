@@ -1,5 +1,5 @@
 -- Laws of sessions: what their turns find, and what their answers print.
-use Rattle.std.specs.Prelude.{◌≡◌, ℕ, ◌+◌, ◌^◌, ◌<◌, ◌≤◌, List, [], ◌∷◌, length, Bool}
+use Rattle.std.specs.Prelude.{◌≡◌, ℕ, ◌^◌, ◌<◌, ◌≤◌, List, [], ◌∷◌, length, Bool}
 use mathlib.Core.List.{IsPrefix}
 use Rattle.log_replay.specs.Records.{Log, entries_of}
 use Rattle.scitt_answers.specs.Marks.{Mark, Step, Doing, FaultsIn, Chain, Next, AreSteps, entries_at}
@@ -45,6 +45,12 @@ SizeAtExit =
 abbrev pub Begins : Mark → Mark → Type 0
 Begins left next = IsPrefix left.standing.log next.standing.log
 
+abbrev pub ChainAmong : Log → List Step → Type 0
+ChainAmong seen steps = Chain (λ m. IsPrefix seen m.standing.log) Begins steps
+
+abbrev pub ExitsAmong : Log → List Step → Mark → Type 0
+ExitsAmong seen steps exit = Next (λ m. IsPrefix seen m.standing.log) Begins steps exit
+
 abbrev pub FindMore : ℕ → List Step → Type 0
 FindMore b [] = Unit {0}
 FindMore b (s ∷ steps) = (b ≤ entries_at s.found) × FindMore b steps
@@ -57,7 +63,7 @@ SizesGrow b (e ∷ es) = FindMore b e.steps × SizesGrow e.answer.size es
 abbrev pub SizesAmongOthers : Type 0
 SizesAmongOthers =
     (tells : Bool) (seen : Log) (number : ℕ) (es : List Exchange)
-    → EachIs tells number es → Chain (λ m. IsPrefix seen m.standing.log) Begins (steps_in es) → SizesGrow (length (entries_of seen)) es
+    → EachIs tells number es → ChainAmong seen (steps_in es) → SizesGrow (length (entries_of seen)) es
 
 -- ---- in both
 
@@ -66,12 +72,17 @@ abbrev pub BeginIt : Log → List Step → Type 0
 BeginIt exit [] = Unit {0}
 BeginIt exit (s ∷ steps) = IsPrefix s.found.standing.log exit × IsPrefix s.left.standing.log exit × BeginIt exit steps
 
--- where a turn finds a log that begins with the one that the turn before left, each begins the log at exit
+-- alone, each begins the log at exit
 abbrev pub LogsBeginExit : Type 0
 LogsBeginExit =
-    (tells : Bool) (begins : Mark → Type 0) (follows : Mark → Mark → Type 0) (steps : List Step) (exit : Mark)
-    → ((left next : Mark) → follows left next → Begins left next)
-    → AreSteps tells steps → Chain begins follows steps → Next begins follows steps exit → BeginIt exit.standing.log steps
+    (tells : Bool) (start : Mark) (steps : List Step) (exit : Mark)
+    → AreSteps tells steps → ChainAlone start steps → ExitsAlone start steps exit → BeginIt exit.standing.log steps
+
+-- and so it does among others
+abbrev pub LogsBeginSeen : Type 0
+LogsBeginSeen =
+    (tells : Bool) (seen : Log) (steps : List Step) (exit : Mark)
+    → AreSteps tells steps → ChainAmong seen steps → ExitsAmong seen steps exit → BeginIt exit.standing.log steps
 
 -- the disk's count of 64 bits never falls
 abbrev pub FaultsNeverFall : Type 0

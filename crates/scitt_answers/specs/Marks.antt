@@ -1,5 +1,5 @@
 -- Turns on a registrar, as whoever makes them sees them.
-use Rattle.std.specs.Prelude.{◌≡◌, ℕ, ◌≤◌, List, [], ◌∷◌, length, Bool, IsTrue, Result, Option, None, Some}
+use Rattle.std.specs.Prelude.{◌≡◌, ℕ, List, [], ◌∷◌, length, Bool, IsTrue}
 use mathlib.Core.List.{IsPrefix}
 use Rattle.log_replay.specs.Records.{entries_of}
 use Rattle.registrar.specs.Turns.{Standing, Call, Turn, IsSound, registered, read, made, hint}
@@ -59,7 +59,7 @@ pub record Turned (tells : Bool) (begins : Mark → Type 0) (last : Mark → Mar
 -- and the log that it left has so many entries
 pub record TurnedTo (tells : Bool) (begins : Mark → Type 0) (last : Mark → Mark → Type 0) (does : Doing) (size : ℕ) : Type 0 where
   pub turned : Turned tells begins last does
-  pub size : size ≡ entries_at turned.left
+  pub leaves : size ≡ entries_at turned.left
 
 -- turns one after another: the first may begin here, and each next one at what may follow the one before
 abbrev pub Chain : (Mark → Type 0) → (Mark → Mark → Type 0) → List Step → Type 0

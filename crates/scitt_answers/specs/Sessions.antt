@@ -1,7 +1,6 @@
 -- A session: the requests of the bytes read, the turns made for them, and the answers written.
 use Rattle.std.specs.Prelude.{◌≡◌, ℕ, ◌+◌, ◌<◌, ◌⊎◌, List, [], ◌∷◌, ◌++◌, length, map, flat_map, take, Bool, true, false, Option, None, Some, ⊤}
 use Rattle.std.specs.Io.KnownBytes.{Consumes, Appends, IsAtEnd}
-use Rattle.http_wire.specs.declared.request.Request.{Request}
 use Rattle.http_wire.specs.Requests.{IsRequest, IsHeadFault, EndsInside}
 use Rattle.http_wire.specs.Answering.{answer_bytes}
 use Rattle.scitt_answers.specs.declared.serving.SessionEnd.{SessionEnd}

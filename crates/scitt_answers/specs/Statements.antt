@@ -1,5 +1,4 @@
 -- The problem of a body that is no statement: the number of its refusal, and the place of a fault of its CBOR.
-use Rattle.std.specs.Prelude.{ℕ}
 use Rattle.cose_sign1.specs.declared.stops.Sign1Stop.{Sign1Stop}
 use Rattle.cose_sign1.specs.declared.stops.Sign1Stop.TheVariants as sign1
 use Rattle.statement.specs.declared.stops.ParseStop.{ParseStop}

@@ -1,5 +1,5 @@
 // From a request to its answer.
-ghost use Rattle.std.specs.Prelude.{◌≡◌, ℕ, ◌≤◌, List, [], Bool, vec_capacity};
+ghost use Rattle.std.specs.Prelude.{◌≡◌, ℕ, ◌≤◌, List, [], IfOk, option_map, vec_capacity};
 ghost use Rattle.http.specs.StatusCode.{IsStatusCode};
 ghost use Rattle.statement.specs.Parsed.{StatementOf};
 ghost use Rattle.scitt_answers.specs.Routes.{table};
@@ -16,12 +16,13 @@ use crate::replying::{Manner, made_answer, problem_answer, read_answer, register
 use crate::routes::Row;
 use crate::statements::parse_problem;
 use crate::turns::Turns;
+use hss_keys::Key60;
 use http_wire::{Answer, Request};
-use log_replay::check;
+use log_replay::{Checked, check};
 use matchit::Router;
 use scitt_io::Clock;
 use statement::{Statement, parse};
-use std::alloc::Global;
+use std::alloc::{AllocError, Global};
 
 /// A problem, by a turn for the size.
 pub(crate) fn refuse<T: Turns>(
@@ -84,6 +85,22 @@ fn read<T: Turns>(
     }
 }
 
+/// Checks a statement between the two calls of the gate.
+fn check_between<G: Gate>(
+    alloc: Global,
+    gate: &mut G,
+    statement: Statement,
+    key: Option<Key60>,
+) -> Result<Checked, (Statement, AllocError)>
+    ensures statement { IfOk result (λ checked. checked.statement ≡ statement) }
+    ensures pair { IfOk result (λ checked. option_map (λ p. p.0) checked.pair ≡ key) }
+{
+    gate.before_check();
+    let checked = check(alloc, statement, key);
+    gate.after_check();
+    checked
+}
+
 /// A registration at a moment, by two turns: one names the key, by which the statement is checked between the two.
 fn register<T: Turns, G: Gate>(
     alloc: Global,
@@ -105,10 +122,7 @@ fn register<T: Turns, G: Gate>(
     ensures same { T.same turns.old turns.new }
 {
     let key = turns.key_hint(&statement);
-    gate.before_check();
-    let checked = check(alloc, statement, key);
-    gate.after_check();
-    match checked {
+    match check_between(alloc, gate, statement, key) {
         Ok(checked) => {
             let (outcome, size) = turns.register(alloc, &checked, moment);
             registered_answer(room, outcome, size, manner)
@@ -194,6 +208,14 @@ pub(crate) fn answer<T: Turns, C: Clock, G: Gate>(
     match ask_of(router, &request) {
         Ask::Refuse(problem) => refuse(room, turns, problem, manner),
         Ask::Read(reading) => read(alloc, room, turns, reading, manner),
-        Ask::Register => take(alloc, room, turns, clock, gate, request.body.as_slice(), manner),
+        Ask::Register => take(
+            alloc,
+            room,
+            turns,
+            clock,
+            gate,
+            request.body.as_slice(),
+            manner,
+        ),
     }
 }

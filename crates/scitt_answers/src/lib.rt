@@ -19,7 +19,6 @@ pub use gate::{Gate, NoGate};
 pub use laws::session_laws;
 pub use local::{Local, serve_local};
 pub use problem::Problem;
-pub use replying::Manner;
-pub use routes::{Row, Target, find, new_router};
+pub use routes::{Row, Target, find, new_router, route_laws};
 pub use serving::{SessionEnd, serve};
 pub use turns::Turns;

@@ -53,11 +53,14 @@ impl<'a, D: Disk> Turns for Local<'a, D> {
 
     ghost same_self = { λ a. (refl, record { same_one = D.same_self a.registrar.now.disk; no_strays = λ _. refl; later = le_refl _ }) };
 
-    ghost same_then = { λ a b c p q. (q.0 ∙ p.0, record {
-      same_one = D.same_then a.registrar.now.disk b.registrar.now.disk c.registrar.now.disk p.1.same_one q.1.same_one;
-      no_strays = λ tells. q.1.no_strays tells ∙ p.1.no_strays tells;
-      later = le_trans p.1.later q.1.later;
-    }) };
+    ghost same_then = { λ a b c p q. (
+      q.0 ∙ p.0,
+      record {
+        same_one = D.same_then a.registrar.now.disk b.registrar.now.disk c.registrar.now.disk p.1.same_one q.1.same_one;
+        no_strays = λ tells. q.1.no_strays tells ∙ p.1.no_strays tells;
+        later = le_trans p.1.later q.1.later;
+      },
+    ) };
 
     fn key_hint(&mut self, statement: &Statement) -> Option<Key60> {
         self.registrar.sound();

@@ -1,9 +1,9 @@
 // The six routes, and the target of a path.
-ghost use Rattle.std.specs.Prelude.{◌≡◌, IfOk};
+ghost use Rattle.std.specs.Prelude.{◌≡◌, IfOk, IfErr};
 ghost use Rattle.std.specs.List.{list_all};
 ghost use Rattle.std.specs.Char.{is_ascii};
 ghost use Rattle.matchit.specs.Params.{AllText, walk};
-ghost use Rattle.scitt_answers.specs.RouteLaws.{PathsFit};
+ghost use Rattle.scitt_answers.specs.RouteLaws.{PathsFit, PlainAlone};
 ghost use Rattle.scitt_answers.specs.Routes.{path_of as path_in, is_plain as plain, number_at as number_in_place, target_at, table, target_of};
 
 use crate::numbers::number_of;
@@ -33,9 +33,10 @@ pub enum Target {
     Nowhere,
 }
 
-/// The six routes.
+/// The six routes. It fails for want of memory alone.
 pub fn new_router(alloc: Global) -> Result<Router<Row>, InsertError>
-    ensures { IfOk result (λ router. router ≡ table) }
+    ensures routes { IfOk result (λ router. router ≡ table) }
+    ensures memory { IfErr result (λ why. why ≡ InsertError.OutOfMemory) }
 {
     let mut router = Router::new(alloc);
     router.insert("/entries", Row::Entries)?;
@@ -47,10 +48,10 @@ pub fn new_router(alloc: Global) -> Result<Router<Row>, InsertError>
     Ok(router)
 }
 
-/// Where a path has a route, the route's pattern spells the path.
-#[tactic(auto, using(crate::proofs::Fitting::seek_fits))]
+/// A law: where a path has a route, the route's pattern spells the path; and only a path of ASCII has a target, whether or not that is tested.
 pub fn route_laws()
-    ensures { PathsFit }
+    ensures fit { PathsFit }
+    ensures plain { PlainAlone }
 {}
 
 /// The path of a target: what stands before its first question mark, or all of it.

@@ -1,4 +1,4 @@
-use Rattle.std.proofs.Common.{◌≡◌, ◌<◌, ◌^◌, ◌++◌, List, ℕ, [], ap, sym, ◌∙◌, arith}
+use Rattle.std.proofs.Common.{◌<◌, ◌^◌, ◌++◌, List, ℕ, ap, sym, ◌∙◌, arith}
 use Rattle.scitt_answers.specs.Problems.{kind_of, numbers_of, fields_text, title_text, problem_bytes}
 use Rattle.scitt_answers.proofs.Bodies.{body_is, title_whole}
 use Rattle.scitt_answers.proofs.problem.problem_body.Goals as goal
