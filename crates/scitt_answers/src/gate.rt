@@ -1,7 +1,9 @@
-/// Called just outside each check of a statement's signature.
+/// What is called just outside each check of a statement's signature, which stands in no turn.
 pub trait Gate {
+    /// Just before a check.
     fn before_check(&mut self);
 
+    /// Just behind it.
     fn after_check(&mut self);
 }
 

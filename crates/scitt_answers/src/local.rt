@@ -29,6 +29,7 @@ fn count_law<D: Disk>(registrar: &Registrar<D>)
 /// A registrar on one thread: each turn finds what the turn before left.
 #[derive(Drop)]
 pub struct Local<'a, D: Disk> {
+    /// The registrar that is lent.
     pub registrar: &'a mut Registrar<D>,
 }
 
