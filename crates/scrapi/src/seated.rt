@@ -37,9 +37,9 @@ impl<'a, D: Disk, R: Wait> Turns for Seated<'a, D, R> {
 
     ghost ready = { λ s. s.seat.now.lock ≡ s.service.now };
 
-    ghost begins = { λ s. begins_at s.seat.now };
+    ghost begins = { λ s m. begins_at s.seat.now m };
 
-    ghost last = { λ s. LastTurn s.seat.now };
+    ghost last = { λ s found left. LastTurn s.seat.now found left };
 
     ghost follows = { Follows };
 
