@@ -1,0 +1,5 @@
+pub mod Words
+pub mod Status
+pub mod Reading
+pub mod Parameters
+pub mod Opening

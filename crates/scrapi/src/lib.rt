@@ -1,0 +1,7 @@
+//! SCRAPI over one connection: the answers of the service, whose turns are made by a seat among other seats on threads.
+#![tactic(auto)]
+
+mod seated;
+
+pub use scitt_answers::{Gate, NoGate, SessionEnd};
+pub use seated::{Seated, serve_connection};
