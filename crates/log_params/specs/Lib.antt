@@ -1,0 +1,2 @@
+pub mod ParamFiles
+pub mod OneAnswer
