@@ -1,13 +1,51 @@
 // Bytes as a parameter file, and items as its parts.
 
 ghost use Rattle.std.specs.Prelude.{◌≡◌, IfOk};
-ghost use Rattle.log_params.specs.ParamFiles.{AnswersAs, Decoded, ReadsItem, params_file_in, params_of_parts};
+ghost use Rattle.cbor_core.specs.Items.{text_in};
+ghost use Rattle.log_replay.specs.Records.{any_holder_in};
+ghost use Rattle.log_params.specs.ParamFiles.{params_from, short_in, signing_levels_in, AnswersAs, Decoded, ReadsItem, params_file_in, params_of_parts};
 
 use crate::reading::{holder_of, levels_of, short_of, text_copied};
 use crate::stop::ParamsStop;
 use cbor_core::{DecodeStop, Item, array_of, decode_strict_all, is_uint};
 use registrar::Params;
 use std::alloc::{AllocError, Global};
+
+// The parameters by the items of their parts.
+fn params_by(
+    alloc: Global,
+    name: &Item,
+    governor: &Item,
+    levels: &Item,
+    max_entries: &Item,
+    block: &Item,
+) -> Result<Option<Params>, AllocError>
+    ensures { IfOk result (λ params. params
+        ≡ params_from (text_in name.now) (any_holder_in governor.now) (signing_levels_in levels.now) (short_in max_entries.now) (short_in block.now)) }
+{
+    let Some(name) = text_copied(alloc, name)? else {
+        return Ok(None);
+    };
+    let Some(governor) = holder_of(alloc, governor)? else {
+        return Ok(None);
+    };
+    let Some(levels) = levels_of(alloc, levels)? else {
+        return Ok(None);
+    };
+    let Some(max_entries) = short_of(max_entries) else {
+        return Ok(None);
+    };
+    let Some(block) = short_of(block) else {
+        return Ok(None);
+    };
+    Ok(Some(Params {
+        name,
+        governor,
+        levels,
+        max_entries,
+        block,
+    }))
+}
 
 /// The parameters that five items are, in their order: the service's name, a text; the governor's holder `[iss, kid, key]`, a text and
 /// two byte strings, the key of 60 bytes; the levels, an array of one to three `[LMS code, OTS code]` of trees of heights 5 and 10
@@ -18,28 +56,12 @@ use std::alloc::{AllocError, Global};
 pub fn params_in(alloc: Global, items: &[Item]) -> Result<Option<Params>, AllocError>
     ensures { IfOk result (λ params. params ≡ params_of_parts items.now) }
 {
-    let [name, governor, levels, max_entries, block] = items else {
-        return Ok(None);
-    };
-    let Some(name) = text_copied(alloc, name)? else {
-        return Ok(None);
-    };
-    let Some(governor) = holder_of(alloc, governor)? else {
-        return Ok(None);
-    };
-    let Some(levels) = levels_of(alloc, levels)? else {
-        return Ok(None);
-    };
-    let (Some(max_entries), Some(block)) = (short_of(max_entries), short_of(block)) else {
-        return Ok(None);
-    };
-    Ok(Some(Params {
-        name,
-        governor,
-        levels,
-        max_entries,
-        block,
-    }))
+    match items {
+        [name, governor, levels, max_entries, block] => {
+            params_by(alloc, name, governor, levels, max_entries, block)
+        }
+        _ => Ok(None),
+    }
 }
 
 // The parameters that an item is.

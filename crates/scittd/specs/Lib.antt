@@ -3,3 +3,4 @@ pub mod Status
 pub mod Reading
 pub mod Parameters
 pub mod Opening
+pub mod Seats

@@ -11,13 +11,17 @@ mod starting;
 mod timed;
 
 use fault::StartFault;
-use starting::run;
+use serving::serve;
+use starting::start;
 use std::env;
 use std::process::ExitCode;
 
 fn main(rt: HostRuntime) -> ExitCode {
-    match run(&rt, rt.alloc(), env::args(&rt)) {
-        Ok(()) => ExitCode::SUCCESS,
+    match start(&rt, rt.alloc(), env::args(&rt)) {
+        Ok(mut server) => {
+            serve(&rt, rt.alloc(), &mut server);
+            ExitCode::SUCCESS
+        }
         Err(fault) => {
             let _ = println!(rt; "{fault}");
             ExitCode::from(fault.status())

@@ -2,11 +2,12 @@
 
 ghost use Rattle.std.specs.Prelude.{◌≡◌, ◌<◌, All, IfOk, IfErr, length};
 ghost use Rattle.turn_lock.specs.Calls.{Caller};
+ghost use Rattle.scittd.specs.Seats.{IsSeated};
 ghost use Rattle.scittd.specs.declared.fault.StartFault.TheVariants.{NoMemory};
 
 use crate::fault::StartFault;
 use crate::timed::TimedStream;
-use scitt_answers::NoGate;
+use scitt_answers::{NoGate, SessionEnd};
 use scitt_disk::Disk;
 use scitt_io::{TcpLink, WallClock};
 use scitt_service::Service;
@@ -29,8 +30,19 @@ const CONNECTION_LIMIT: u64 = 120;
 /// How long a worker rests where no connection can be accepted, in milliseconds.
 const REST: u64 = 100;
 
-/// How many reads are made of what a peer still sends after the last answer.
-const LAST_READS: u32 = 2048;
+/// How long a worker takes what a peer still sends after the last answer, in seconds, and how long it waits for that.
+const LEAVE_LIMIT: u64 = 5;
+
+/// How many reads are made of it.
+const LEAVE_READS: u32 = 2048;
+
+/// A server that has started: where it listens, its service, and a seat of it for each worker.
+#[derive(Drop)]
+pub struct Server<D: Disk> {
+    pub listener: TcpListener,
+    pub service: Service<D>,
+    pub seats: Vec<CallerSeat>,
+}
 
 /// A seat for each worker, split from the first.
 pub fn seats_of<D: Disk>(
@@ -57,10 +69,10 @@ pub fn seats_of<D: Disk>(
     Ok(seats)
 }
 
-/// Takes what the peer still sends, so that the last answer isn't lost to it when the connection is closed.
-fn take_leave<S: Read>(stream: &mut S) {
+/// Takes what is still sent.
+fn take_rest<S: Read>(stream: &mut S) {
     let mut rest = [0; 4096];
-    for _ in 0..LAST_READS {
+    for _ in 0..LEAVE_READS {
         match stream.read(&mut rest) {
             Ok(count) if count > 0 => {}
             _ => return,
@@ -83,9 +95,19 @@ fn serve_stream<R: Clock + Wait, D: Disk>(
     let timed = TimedStream::new(rt, stream, Duration::from_secs(CONNECTION_LIMIT))?;
     let mut link = TcpLink::new(timed, Duration::from_secs(WAIT_LIMIT))?;
     let mut clock = WallClock::new(rt);
-    serve_connection(rt, alloc, service, seat, &mut link, &mut clock, &mut NoGate);
+    let end = serve_connection(rt, alloc, service, seat, &mut link, &mut clock, &mut NoGate);
+    match end {
+        SessionEnd::ReadFault | SessionEnd::WriteFault => Ok(()),
+        _ => close_stream(rt, stream),
+    }
+}
+
+/// Closes a connection of which the last answer was written. What the peer still sends is taken first, so that the answer isn't lost to it.
+fn close_stream<R: Clock>(rt: &R, stream: &TcpStream) -> io::Result<()> {
+    let limit = Duration::from_secs(LEAVE_LIMIT);
     stream.shutdown(Shutdown::Write)?;
-    take_leave(&mut TimedStream::new(rt, stream, Duration::from_secs(WAIT_LIMIT))?);
+    stream.set_read_timeout(Some(limit))?;
+    take_rest(&mut TimedStream::new(rt, stream, limit)?);
     Ok(())
 }
 
@@ -110,22 +132,21 @@ fn work<R: Clock + Wait, D: Disk>(
     }
 }
 
-/// Starts a worker for each seat. Each serves one connection after another.
+/// Starts a worker for each seat of the server. Each serves one connection after another.
 pub fn serve<R: Clock + Threads + Wait + Sync, D: Disk + Send>(
     rt: &R,
     alloc: Global,
-    listener: &TcpListener,
-    service: &Service<D>,
-    seats: &mut [CallerSeat],
+    server: &mut Server<D>,
 )
-    requires some { 0 < length seats.old }
-    requires locks { All (λ (seat : Caller). seat.lock ≡ service.now) seats.old }
+    requires { IsSeated server.old }
 {
-    let workers = seats.len();
+    let listener = &server.listener;
+    let service = &server.service;
+    let workers = server.seats.len();
     thread::for_each_mut(
         rt,
-        seats,
+        server.seats.as_mut_slice(),
         workers,
-        &|_, seat| { work(rt, alloc, listener, service, seat) },
+        &|_, seat| work(rt, alloc, listener, service, seat),
     );
 }

@@ -1,12 +1,19 @@
 // The start of the server, step by step.
 
-ghost use Rattle.std.specs.Prelude.{◌≡◌, IfErr};
+ghost use Rattle.std.specs.Prelude.{◌≡◌, ◌≢◌, ◌≤◌, ◌⊎◌, None, IfOk, IfErr, IsErrOf, IsErrAnd, IsOkAnd, map};
+ghost use Rattle.std.specs.IoError.{error_kind};
+ghost use Rattle.std.specs.String.{string_bytes};
+ghost use Rattle.std.specs.Vec.Iter.{into_iter_items};
+ghost use Rattle.scittd.specs.Words.{given_in};
+ghost use Rattle.scittd.specs.declared.fault.StartFault.TheVariants.{WordsRefused, NoMemory};
+ghost use Rattle.scittd.specs.Seats.{IsSeated};
 
 use crate::fault::StartFault;
 use crate::given::{given_by, words_of};
 use crate::opening::open;
-use crate::serving::{seats_of, serve};
-use scitt_disk::FileDisk;
+use crate::serving::{Server, seats_of};
+use registrar::Registrar;
+use scitt_disk::{Disk, FileDisk};
 use scitt_io::FileFolder;
 use scitt_service::Service;
 use std::alloc::Global;
@@ -16,9 +23,6 @@ use std::io;
 use std::io::{ErrorKind, Input};
 use std::net::{Net, TcpListener, TcpStream};
 use std::rt::Files;
-use std::sync::Wait;
-use std::thread::Threads;
-use std::time::Clock;
 
 /// Listens at this address.
 fn listen_at<R: Net<Listener = TcpListener, Stream = TcpStream>>(
@@ -32,16 +36,40 @@ fn listen_at<R: Net<Listener = TcpListener, Stream = TcpStream>>(
     }
 }
 
-/// Starts the server and lets it serve.
-pub fn run<R>(rt: &R, alloc: Global, args: io::Result<Args>) -> Result<(), StartFault>
+/// A server of this listener and this registrar, with so many seats.
+fn seated<D: Disk + Drop>(
+    alloc: Global,
+    listener: TcpListener,
+    registrar: Registrar<D>,
+    workers: usize,
+) -> Result<Server<D>, StartFault>
+    requires { (1 ≤ workers) × (workers ≤ 8) }
+    ensures seated { IfOk result IsSeated }
+    ensures memory { IfErr result (λ fault. fault ≡ NoMemory) }
+{
+    let Ok((service, mut first)) = Service::new(alloc, registrar) else {
+        return Err(StartFault::NoMemory);
+    };
+    let seats = seats_of(alloc, &service, &mut first, workers)?;
+    Ok(Server {
+        listener,
+        service,
+        seats,
+    })
+}
+
+/// Starts the server on a file and an address, so far that only its workers are missing. The first step that fails ends it: the words, the
+/// seed file, the log, the parameter file where the log is created, the address. `NoMemory` is the want of memory in any of them.
+pub fn start<'a, R>(
+    rt: &'a R,
+    alloc: Global,
+    args: io::Result<Args>,
+) -> Result<Server<FileDisk<&'a R>>, StartFault>
 where
-    R: Files<File = File>
-        + Input
-        + Clock
-        + Net<Listener = TcpListener, Stream = TcpStream>
-        + Threads
-        + Wait
-        + Sync,
+    R: Files<File = File> + Input + Net<Listener = TcpListener, Stream = TcpStream>,
+    ensures seated { IfOk result IsSeated }
+    ensures words { IsErrOf result WordsRefused → IsErrAnd args (λ error. error_kind error ≢ ErrorKind.OutOfMemory)
+        ⊎ IsOkAnd args (λ given. given_in (map string_bytes (into_iter_items given)) ≡ None) }
 {
     let words = words_of(alloc, args)?;
     let given = given_by(alloc, words.as_slice())?;
@@ -52,10 +80,5 @@ where
     let disk = FileDisk::new(rt, path);
     let registrar = open(alloc, &mut files, disk, &given)?;
     let listener = listen_at(rt, given.listen)?;
-    let Ok((service, mut first)) = Service::new(alloc, registrar) else {
-        return Err(StartFault::NoMemory);
-    };
-    let mut seats = seats_of(alloc, &service, &mut first, given.workers)?;
-    serve(rt, alloc, &listener, &service, seats.as_mut_slice());
-    Ok(())
+    seated(alloc, listener, registrar, given.workers)
 }

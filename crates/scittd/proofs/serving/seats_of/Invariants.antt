@@ -3,13 +3,13 @@ use Rattle.std.specs.List.{All}
 use Rattle.turn_lock.specs.Calls.{Caller}
 use Rattle.scittd.proofs.serving.seats_of.Given as goal
 
-abbrev pub invariant-loop-seats : goal.invariant-loop-seats
-invariant-loop-seats g l = record {
+abbrev pub invariant-loop-first : goal.invariant-loop-first
+invariant-loop-first g l = record {
   lock : l.first.lock ≡ l.service;
   weight : l.first.weight + length l.seats.items ≡ l.fn.first.weight;
   most : length l.seats.items ≤ l.workers;
   seats : All (λ (seat : Caller). seat.lock ≡ l.service) l.seats.items;
 }
 
-abbrev pub decreases-loop-seats : goal.decreases-loop-seats
-decreases-loop-seats g l = l.workers - length l.seats.items
+abbrev pub decreases-loop-first : goal.decreases-loop-first
+decreases-loop-first g l = l.workers - length l.seats.items

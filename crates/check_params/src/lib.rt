@@ -1,0 +1,7 @@
+//! Tests of `log_params`.
+#![tactic(auto)]
+
+#[cfg(test)]
+mod files;
+#[cfg(test)]
+mod vectors;
