@@ -14,12 +14,17 @@ use Rattle.statement.specs.declared.statement_type.Statement.{Statement}
 use Rattle.statement.specs.declared.stops.ParseStop.{ParseStop}
 use Rattle.statement.specs.OneAnswer.{OneAnswer}
 use Rattle.scitt_tool.specs.Answer.{Answer, done, refused}
-use Rattle.scitt_tool.specs.Command.{Command, Root, Show, Policy, Audit, Keygen, Attach, command_of}
+use Rattle.scitt_tool.specs.Command.{Command, Root, Show, Policy, Audit, Keygen, Attach, Verify, command_of}
 use Rattle.scitt_tool.specs.Reads.{ByFiles}
 use Rattle.scitt_tool.specs.Outcome.{Outcome}
 use Rattle.scitt_tool.specs.Attach.{AttachOf}
 use Rattle.scitt_tool.specs.Audit.{report_answer, AuditOf}
 use Rattle.auditor.specs.Laws.{OneReport}
+use Rattle.scitt_tool.specs.Verify.{verdict_answer, VerifyOf}
+use Rattle.relying_party.specs.declared.trust.Trust.{Trust}
+use Rattle.relying_party.specs.declared.trust.TrustStop.{TrustStop}
+use Rattle.relying_party.specs.Accepts.{Accepts}
+use Rattle.relying_party.specs.OneAnswer.{OneAnswer as OneTrust, OneVerdict}
 use Rattle.scitt_tool.specs.Keygen.{KeygenOf}
 use Rattle.lms_tree.specs.declared.types.Level.{Level}
 use Rattle.cose_sign1.specs.declared.sign1.Sign1.{Sign1}
@@ -152,6 +157,26 @@ one_policy one bytes a b (inr (inr p)) (inr (inr q)) =
 one_audit : OneReport → (bytes : List ℕ) → One (AuditOf bytes)
 one_audit one bytes a b p q = p.is ∙ ap report_answer (one bytes p.report q.report p.says q.says) ∙ sym q.is
 
+-- ---- verify
+
+abbrev Trusts : Type 0
+Trusts = Result Trust TrustStop
+
+same_trust : (s t : Trust) → ◌≡◌ {A = Trusts} (Ok s) (Ok t) → s ≡ t
+same_trust s t e = cc
+
+trust_none : (s : Trust) (p : TrustStop) → ◌≡◌ {A = Trusts} (Ok s) (Err p) → ⊥
+trust_none s p e = cc
+
+one_verify : OneTrust → OneVerdict → (bytes statement : List ℕ) → One (VerifyOf bytes statement)
+one_verify trust verdict bytes statement a b (inl p) (inl q) = p.is ∙ sym q.is
+one_verify trust verdict bytes statement a b (inl p) (inr q) = absurd (trust_none q.trust p.stop (trust bytes (Ok q.trust) (Err p.stop) q.trusted p.first))
+one_verify trust verdict bytes statement a b (inr p) (inl q) = absurd (trust_none p.trust q.stop (trust bytes (Ok p.trust) (Err q.stop) p.trusted q.first))
+one_verify trust verdict bytes statement a b (inr p) (inr q) =
+    let same = same_trust p.trust q.trust (trust bytes (Ok p.trust) (Ok q.trust) p.trusted q.trusted) in
+    let accepts = subst (λ (t : Trust). Accepts t statement p.verdict) same p.accepts in
+    p.is ∙ ap verdict_answer (verdict q.trust statement p.verdict q.verdict accepts q.accepts) ∙ sym q.is
+
 -- ---- attach
 
 same_message : OneMessage → (bytes : List ℕ) (v w : Sign1) → Sign1Of bytes v → Sign1Of bytes w → v ≡ w
@@ -213,12 +238,13 @@ one_files J each (Some bytes ∷ contents) a b (inl (small, p)) (inr (long, q)) 
 one_files J each (Some bytes ∷ contents) a b (inr (long, p)) (inl (small, q)) = absurd (omega (arith, small, long))
 one_files J each (Some bytes ∷ contents) a b (inr (long, p)) (inr (large, q)) = p ∙ sym q
 
-module _ (never : NeverBoth) (one_item : OneItem) (one_fault : OneWholeFault) (tags : TagStandsFirst) (one : OneAnswer) (document : OneDocument) (message : OneMessage) (spelling : OneStrictSpelling) (report : OneReport) where
+module _ (never : NeverBoth) (one_item : OneItem) (one_fault : OneWholeFault) (tags : TagStandsFirst) (one : OneAnswer) (document : OneDocument) (message : OneMessage) (spelling : OneStrictSpelling) (report : OneReport) (trust : OneTrust) (verdict : OneVerdict) where
   one_judged : (key random : List ℕ) (command : Command) (read : List (List ℕ)) → OneOutcome (Judged (Unit {0}) key random command read)
   one_judged key random (Root file) read = one_plain (RootOf (first read)) (one_root never one_item one_fault (first read))
   one_judged key random (Show file) read = one_plain (ShowOf (first read)) (one_show tags one (first read))
   one_judged key random (Policy file) read = one_plain (PolicyTextOf (first read)) (one_policy document (first read))
   one_judged key random (Audit file) read = one_plain (AuditOf (first read)) (one_audit report (first read))
+  one_judged key random (Verify _ _) read = one_plain (VerifyOf (first read) (second read)) (one_verify trust verdict (first read) (second read))
   one_judged key random (Keygen levels) read = one_keygen levels key random
   one_judged key random (Attach statement receipt) read = one_plain (AttachOf (first read) (second read)) (one_attach one message spelling (first read) (second read))
 

@@ -11,6 +11,7 @@ pub data Command : Type 0 where
   Audit : (file : List ℕ) → Command
   Keygen : (levels : List Level) → Command
   Attach : (statement : List ℕ) → (receipt : List ℕ) → Command
+  Verify : (trust : List ℕ) → (statement : List ℕ) → Command
 
 -- a name and one argument
 abbrev pub with_one : List ℕ → List ℕ → Option Command
@@ -24,7 +25,10 @@ with_one name a =
 
 -- a name and two
 abbrev pub with_two : List ℕ → List ℕ → List ℕ → Option Command
-with_two name a b = if bytes_eq name (codes "attach") then Some (Attach a b) else None
+with_two name a b =
+    if bytes_eq name (codes "attach") then Some (Attach a b)
+    else (if bytes_eq name (codes "verify") then Some (Verify a b)
+    else None)
 
 -- the command that these words are, exactly
 abbrev pub command_of : List (List ℕ) → Option Command
@@ -40,6 +44,7 @@ files_of (Policy file) = file ∷ []
 files_of (Audit file) = file ∷ []
 files_of (Keygen levels) = []
 files_of (Attach statement receipt) = statement ∷ receipt ∷ []
+files_of (Verify trust statement) = trust ∷ statement ∷ []
 
 -- the files that words read: none where they are no command
 abbrev pub files_read : Option Command → List (List ℕ)

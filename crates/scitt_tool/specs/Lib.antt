@@ -15,6 +15,7 @@ pub mod LevelNames
 pub mod Outcome
 pub mod Attach
 pub mod Audit
+pub mod Verify
 pub mod Keygen
 pub mod Asking
 pub mod Stopping

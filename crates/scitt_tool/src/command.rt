@@ -35,6 +35,11 @@ pub(crate) enum Command<'a> {
         statement: &'a str,
         receipt: &'a str,
     },
+    /// `verify TRUST STATEMENT`
+    Verify {
+        trust: &'a str,
+        statement: &'a str,
+    },
 }
 
 impl Command<'_> {
@@ -49,6 +54,7 @@ impl Command<'_> {
             | Command::Audit { file } => first(place, file),
             Command::Keygen { .. } => None,
             Command::Attach { statement, receipt } => either(place, statement, receipt),
+            Command::Verify { trust, statement } => either(place, trust, statement),
         }
     }
 }
@@ -95,6 +101,10 @@ fn with_two<'a>(name: &str, first: &'a str, second: &'a str) -> Option<Command<'
         "attach" => Some(Command::Attach {
             statement: first,
             receipt: second,
+        }),
+        "verify" => Some(Command::Verify {
+            trust: first,
+            statement: second,
         }),
         _ => None,
     }

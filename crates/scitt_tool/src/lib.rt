@@ -20,6 +20,7 @@ mod run;
 mod show;
 mod stop;
 mod stops;
+mod verify;
 
 pub use answer::Status;
 pub use laws::words_and_files_have_one_text;

@@ -18,6 +18,7 @@ use crate::policy::policy;
 use crate::root::root;
 use crate::show::show;
 use crate::stops::ToolStop;
+use crate::verify::verify;
 use scitt_disk::Disk;
 use scitt_io::{Folder, ReadStop, Sink, Source, Words};
 use std::alloc::{AllocError, Global};
@@ -184,6 +185,7 @@ fn judge<D: Disk, S: Source>(
         Command::Policy { .. } => Ok(policy(alloc, first(read))?),
         Command::Audit { .. } => Ok(audit(alloc, first(read))?),
         Command::Attach { .. } => Ok(attach(alloc, first(read), second(read))?),
+        Command::Verify { .. } => Ok(verify(alloc, first(read), second(read))?),
         Command::Keygen { levels } => keygen(alloc, levels, key, random),
     }
 }

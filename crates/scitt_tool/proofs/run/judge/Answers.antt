@@ -23,3 +23,8 @@ pub returns-in_ok-attach-in-Attach-clause-judged :
     goal.returns-in_ok-attach-in-Attach-clause-judged
 returns-in_ok-attach-in-Attach-clause-judged g c =
     rw c.in-Attach.is (plain_over _ _ _ _ _ _ (λ key random. (rw (c.first-in-Attach.ensures, c.second.ensures) at c.in_ok-attach-in-Attach.ensures, refl)))
+
+pub returns-in_ok-verify-in-Verify-clause-judged :
+    goal.returns-in_ok-verify-in-Verify-clause-judged
+returns-in_ok-verify-in-Verify-clause-judged g c =
+    rw c.in-Verify.is (plain_over _ _ _ _ _ _ (λ key random. (rw (c.first-in-Verify.ensures, c.second-in-Verify.ensures) at c.in_ok-verify-in-Verify.ensures, refl)))
