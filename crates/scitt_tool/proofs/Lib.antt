@@ -1,5 +1,6 @@
 pub mod Reading
 pub mod Strings
+pub mod Digits
 pub mod Contents
 pub mod Making
 pub mod Attaching

@@ -14,13 +14,15 @@ use Rattle.statement.specs.declared.statement_type.Statement.{Statement}
 use Rattle.statement.specs.declared.stops.ParseStop.{ParseStop}
 use Rattle.statement.specs.OneAnswer.{OneAnswer}
 use Rattle.scitt_tool.specs.Answer.{Answer, done, refused}
-use Rattle.scitt_tool.specs.Command.{Command, Root, Show, Policy, Audit, Keygen, Attach, Verify, command_of}
+use Rattle.scitt_tool.specs.Command.{Command, Root, Show, Policy, Audit, Keygen, Attach, Verify, Consistent, command_of}
 use Rattle.scitt_tool.specs.Reads.{ByFiles}
 use Rattle.scitt_tool.specs.Outcome.{Outcome}
 use Rattle.scitt_tool.specs.Attach.{AttachOf}
 use Rattle.scitt_tool.specs.Audit.{report_answer, AuditOf}
 use Rattle.auditor.specs.Laws.{OneReport}
 use Rattle.scitt_tool.specs.Verify.{verdict_answer, VerifyOf}
+use Rattle.scitt_tool.specs.Consistent.{result_answer, ConsistentOf}
+use Rattle.relying_party.specs.Growth.{AcceptsConsistency}
 use Rattle.relying_party.specs.declared.trust.Trust.{Trust}
 use Rattle.relying_party.specs.declared.trust.TrustStop.{TrustStop}
 use Rattle.relying_party.specs.Accepts.{Accepts}
@@ -177,6 +179,17 @@ one_verify trust verdict bytes statement a b (inr p) (inr q) =
     let accepts = subst (λ (t : Trust). Accepts t statement p.verdict) same p.accepts in
     p.is ∙ ap verdict_answer (verdict q.trust statement p.verdict q.verdict accepts q.accepts) ∙ sym q.is
 
+-- ---- consistent
+
+one_consistent : OneTrust → (bytes receipt : List ℕ) (size : ℕ) (root : List ℕ) → One (ConsistentOf bytes receipt size root)
+one_consistent trust bytes receipt size root a b (inl p) (inl q) = p.is ∙ sym q.is
+one_consistent trust bytes receipt size root a b (inl p) (inr q) = absurd (trust_none q.trust p.stop (trust bytes (Ok q.trust) (Err p.stop) q.trusted p.first))
+one_consistent trust bytes receipt size root a b (inr p) (inl q) = absurd (trust_none p.trust q.stop (trust bytes (Ok p.trust) (Err q.stop) p.trusted q.first))
+one_consistent trust bytes receipt size root a b (inr p) (inr q) =
+    let same = same_trust p.trust q.trust (trust bytes (Ok p.trust) (Ok q.trust) p.trusted q.trusted) in
+    let accepts = subst (λ (t : Trust). AcceptsConsistency t receipt size root p.result) same p.accepts in
+    p.is ∙ ap result_answer (accepts ∙ sym q.accepts) ∙ sym q.is
+
 -- ---- attach
 
 same_message : OneMessage → (bytes : List ℕ) (v w : Sign1) → Sign1Of bytes v → Sign1Of bytes w → v ≡ w
@@ -245,6 +258,7 @@ module _ (never : NeverBoth) (one_item : OneItem) (one_fault : OneWholeFault) (t
   one_judged key random (Policy file) read = one_plain (PolicyTextOf (first read)) (one_policy document (first read))
   one_judged key random (Audit file) read = one_plain (AuditOf (first read)) (one_audit report (first read))
   one_judged key random (Verify _ _) read = one_plain (VerifyOf (first read) (second read)) (one_verify trust verdict (first read) (second read))
+  one_judged key random (Consistent _ _ size root) read = one_plain (ConsistentOf (first read) (second read) size root) (one_consistent trust (first read) (second read) size root)
   one_judged key random (Keygen levels) read = one_keygen levels key random
   one_judged key random (Attach statement receipt) read = one_plain (AttachOf (first read) (second read)) (one_attach one message spelling (first read) (second read))
 

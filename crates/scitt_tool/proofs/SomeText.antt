@@ -16,7 +16,7 @@ use Rattle.statement.specs.declared.statement_type.Statement.{Statement}
 use Rattle.statement.specs.declared.stops.ParseStop.{ParseStop}
 use Rattle.statement.specs.OneAnswer.{AnswerOf, SomeAnswer}
 use Rattle.scitt_tool.specs.Answer.{Answer, done, refused, words_refused, unread, too_long}
-use Rattle.scitt_tool.specs.Command.{Command, Root, Show, Policy, Audit, Keygen, Attach, Verify, command_of}
+use Rattle.scitt_tool.specs.Command.{Command, Root, Show, Policy, Audit, Keygen, Attach, Verify, Consistent, command_of}
 use Rattle.scitt_tool.specs.Reads.{limit, ByFiles}
 use Rattle.scitt_tool.specs.FaultText.{fault_text}
 use Rattle.cose_sign1.specs.Tbs.{byte_item}
@@ -32,6 +32,8 @@ use Rattle.scitt_tool.specs.Policy.{policy_lines, PolicyTextOf}
 use Rattle.scitt_tool.specs.Audit.{report_answer, AuditOf}
 use Rattle.auditor.specs.Laws.{SomeReport}
 use Rattle.scitt_tool.specs.Verify.{verdict_answer, VerifyOf}
+use Rattle.scitt_tool.specs.Consistent.{result_answer, ConsistentOf}
+use Rattle.relying_party.specs.Growth.{consistency_result}
 use Rattle.relying_party.specs.declared.trust.Trust.{Trust}
 use Rattle.relying_party.specs.declared.trust.TrustStop.{TrustStop}
 use Rattle.relying_party.specs.OneAnswer.{AnswerOf as TrustAnswer, SomeAnswer as SomeTrust, SomeVerdict}
@@ -161,6 +163,11 @@ some_verdict some bytes statement fits (Ok trust) p =
     (verdict_answer found.0, inr (record { trust = trust; trusted = p; verdict = found.0; accepts = found.1; is = refl }))
 some_verdict some bytes statement fits (Err stop) p = (refused (codes "refused trust"), inl (record { stop = stop; first = p; is = refl }))
 
+some_growth : (bytes receipt : List ℕ) (size : ℕ) (root : List ℕ) (answer : Result Trust TrustStop) → TrustAnswer bytes answer → Has (ConsistentOf bytes receipt size root)
+some_growth bytes receipt size root (Ok trust) p =
+    (result_answer (consistency_result trust receipt size root), inr (record { trust = trust; trusted = p; result = consistency_result trust receipt size root; accepts = refl; is = refl }))
+some_growth bytes receipt size root (Err stop) p = (refused (codes "refused trust"), inl (record { stop = stop; first = p; is = refl }))
+
 -- ---- outcomes
 
 abbrev HasOutcome : (Outcome → Type 0) → Type 0
@@ -215,6 +222,7 @@ module _ (either : ItemOrFault) (some : SomeAnswer) (document : SomeDocument) (r
   some_judged key random (Policy file) other read each = let found = document (first read) (first_bytes read each) in some_plain (PolicyTextOf (first read)) (document_text (first read) found.0 found.1)
   some_judged key random (Audit file) other read each = some_plain (AuditOf (first read)) (some_audit report (first read) (first_bytes read each))
   some_judged key random (Verify _ _) other read each = let found = trust (first read) (first_bytes read each) in some_plain (VerifyOf (first read) (second read)) (some_verdict verdict (first read) (second read) (second_bytes read each) found.0 found.1)
+  some_judged key random (Consistent _ _ size root) other read each = let found = trust (first read) (first_bytes read each) in some_plain (ConsistentOf (first read) (second read) size root) (some_growth (first read) (second read) size root found.0 found.1)
   some_judged key random (Keygen levels) other read each = some_keygen levels key random
   some_judged key random (Attach statement receipt) other read each = absurd other
 

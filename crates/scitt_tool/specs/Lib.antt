@@ -1,3 +1,4 @@
+pub mod Numbers
 pub mod Command
 pub mod Meaning
 pub mod Answer
@@ -16,6 +17,7 @@ pub mod Outcome
 pub mod Attach
 pub mod Audit
 pub mod Verify
+pub mod Consistent
 pub mod Keygen
 pub mod Asking
 pub mod Stopping

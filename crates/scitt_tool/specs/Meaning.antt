@@ -2,8 +2,8 @@
 use Rattle.std.specs.Prelude.{ℕ, List, map}
 use Rattle.std.specs.Global.{Vec}
 use Rattle.scitt_tool.specs.declared.command.Command.{Command as Read}
-use Rattle.scitt_tool.specs.declared.command.Command.TheVariants.{Root as ReadRoot, Show as ReadShow, Policy as ReadPolicy, Audit as ReadAudit, Keygen as ReadKeygen, Attach as ReadAttach, Verify as ReadVerify}
-use Rattle.scitt_tool.specs.Command.{Command, Root, Show, Policy, Audit, Keygen, Attach, Verify}
+use Rattle.scitt_tool.specs.declared.command.Command.TheVariants.{Root as ReadRoot, Show as ReadShow, Policy as ReadPolicy, Audit as ReadAudit, Keygen as ReadKeygen, Attach as ReadAttach, Verify as ReadVerify, Consistent as ReadConsistent}
+use Rattle.scitt_tool.specs.Command.{Command, Root, Show, Policy, Audit, Keygen, Attach, Verify, Consistent}
 
 abbrev pub meaning : Read → Command
 meaning (ReadRoot file) = Root file.now
@@ -13,6 +13,7 @@ meaning (ReadAudit file) = Audit file.now
 meaning (ReadKeygen levels) = Keygen levels
 meaning (ReadAttach statement receipt) = Attach statement.now receipt.now
 meaning (ReadVerify trust statement) = Verify trust.now statement.now
+meaning (ReadConsistent trust receipt size root) = Consistent trust.now receipt.now size root
 
 -- what was read of files
 abbrev pub all_read : List (Vec ℕ) → List (List ℕ)

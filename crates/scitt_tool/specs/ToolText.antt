@@ -2,7 +2,7 @@
 use Rattle.std.specs.Prelude.{◌≡◌, ℕ, List, [], ◌∷◌, Option, Some, None}
 use Rattle.cbor_core.specs.Bytes.{IsBytes}
 use Rattle.scitt_tool.specs.Answer.{Answer, words_refused}
-use Rattle.scitt_tool.specs.Command.{Command, Root, Show, Policy, Audit, Keygen, Attach, Verify, command_of}
+use Rattle.scitt_tool.specs.Command.{Command, Root, Show, Policy, Audit, Keygen, Attach, Verify, Consistent, command_of}
 use Rattle.scitt_tool.specs.Outcome.{Outcome, Kept, plain}
 use Rattle.scitt_tool.specs.Reads.{ByFiles}
 use Rattle.scitt_tool.specs.Root.{RootOf}
@@ -11,6 +11,7 @@ use Rattle.scitt_tool.specs.Policy.{PolicyTextOf}
 use Rattle.scitt_tool.specs.Audit.{AuditOf}
 use Rattle.scitt_tool.specs.Attach.{AttachOf}
 use Rattle.scitt_tool.specs.Verify.{VerifyOf}
+use Rattle.scitt_tool.specs.Consistent.{ConsistentOf}
 use Rattle.scitt_tool.specs.Keygen.{KeygenOf}
 
 -- the bytes of the first and of the second file
@@ -34,6 +35,7 @@ Judged Tells key random (Policy file) read = Plain (PolicyTextOf (first read))
 Judged Tells key random (Audit file) read = Plain (AuditOf (first read))
 Judged Tells key random (Attach statement receipt) read = Plain (AttachOf (first read) (second read))
 Judged Tells key random (Verify trust statement) read = Plain (VerifyOf (first read) (second read))
+Judged Tells key random (Consistent trust receipt size root) read = Plain (ConsistentOf (first read) (second read) size root)
 Judged Tells key random (Keygen levels) read = KeygenOf Tells levels key random
 
 abbrev pub CommandText : Type 0 → List ℕ → List ℕ → Option Command → List (Option (List ℕ)) → Outcome → Type 0

@@ -3,8 +3,10 @@ ghost use Rattle.std.specs.Option.{option_map, option_copied};
 ghost use Rattle.scitt_tool.specs.Command as said;
 ghost use Rattle.scitt_tool.specs.Meaning.{meaning};
 
+use crate::consistent::{root_named, size_named};
 use crate::levels::levels_named;
 use hss_keys::Levels;
+use merkle_tree::Hash;
 use scitt_io::Words;
 
 /// A command with its arguments.
@@ -40,6 +42,13 @@ pub(crate) enum Command<'a> {
         trust: &'a str,
         statement: &'a str,
     },
+    /// `consistent TRUST RECEIPT SIZE ROOT`
+    Consistent {
+        trust: &'a str,
+        receipt: &'a str,
+        size: u32,
+        root: Hash,
+    },
 }
 
 impl Command<'_> {
@@ -55,6 +64,7 @@ impl Command<'_> {
             Command::Keygen { .. } => None,
             Command::Attach { statement, receipt } => either(place, statement, receipt),
             Command::Verify { trust, statement } => either(place, trust, statement),
+            Command::Consistent { trust, receipt, .. } => either(place, trust, receipt),
         }
     }
 }
@@ -110,6 +120,30 @@ fn with_two<'a>(name: &str, first: &'a str, second: &'a str) -> Option<Command<'
     }
 }
 
+fn with_four<'a>(
+    name: &str,
+    trust: &'a str,
+    receipt: &'a str,
+    size: &str,
+    root: &str,
+) -> Option<Command<'a>>
+    ensures { option_map meaning result ≡ said.with_four name.now trust.now receipt.now size.now root.now }
+{
+    match name {
+        "consistent" => {
+            let size = size_named(size)?;
+            let root = root_named(root)?;
+            Some(Command::Consistent {
+                trust,
+                receipt,
+                size,
+                root,
+            })
+        }
+        _ => None,
+    }
+}
+
 /// The command that these words are, exactly.
 pub(crate) fn command_of(words: &Words) -> Option<Command<'_>>
     ensures { option_map meaning result ≡ said.command_of words.now }
@@ -117,6 +151,13 @@ pub(crate) fn command_of(words: &Words) -> Option<Command<'_>>
     match words.len() {
         2 => with_one(words.word(0), words.word(1)),
         3 => with_two(words.word(0), words.word(1), words.word(2)),
+        5 => with_four(
+            words.word(0),
+            words.word(1),
+            words.word(2),
+            words.word(3),
+            words.word(4),
+        ),
         _ => None,
     }
 }

@@ -12,6 +12,7 @@ use crate::answer::{Answer, Status, disk_fault, too_long, unread, words_refused}
 use crate::attach::attach;
 use crate::audit::audit;
 use crate::command::{Command, command_of};
+use crate::consistent::consistent;
 use crate::file::read_files;
 use crate::keygen::keygen;
 use crate::policy::policy;
@@ -186,6 +187,9 @@ fn judge<D: Disk, S: Source>(
         Command::Audit { .. } => Ok(audit(alloc, first(read))?),
         Command::Attach { .. } => Ok(attach(alloc, first(read), second(read))?),
         Command::Verify { .. } => Ok(verify(alloc, first(read), second(read))?),
+        Command::Consistent { size, root, .. } => {
+            Ok(consistent(alloc, first(read), second(read), *size, root)?)
+        }
         Command::Keygen { levels } => keygen(alloc, levels, key, random),
     }
 }

@@ -28,3 +28,8 @@ pub returns-in_ok-verify-in-Verify-clause-judged :
     goal.returns-in_ok-verify-in-Verify-clause-judged
 returns-in_ok-verify-in-Verify-clause-judged g c =
     rw c.in-Verify.is (plain_over _ _ _ _ _ _ (λ key random. (rw (c.first-in-Verify.ensures, c.second-in-Verify.ensures) at c.in_ok-verify-in-Verify.ensures, refl)))
+
+pub returns-in_ok-consistent-in-Consistent-clause-judged :
+    goal.returns-in_ok-consistent-in-Consistent-clause-judged
+returns-in_ok-consistent-in-Consistent-clause-judged g c =
+    rw c.in-Consistent.is (plain_over _ _ _ _ _ _ (λ key random. (rw (c.first-in-Consistent.ensures, c.second-in-Consistent.ensures) at c.in_ok-consistent-in-Consistent.ensures, refl)))
