@@ -19,5 +19,8 @@ pub mod Audit
 pub mod Verify
 pub mod Consistent
 pub mod Keygen
+pub mod Claims
+pub mod Sign
+pub mod Drafts
 pub mod Asking
 pub mod Stopping

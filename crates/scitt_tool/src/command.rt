@@ -3,6 +3,7 @@ ghost use Rattle.std.specs.Option.{option_map, option_copied};
 ghost use Rattle.scitt_tool.specs.Command as said;
 ghost use Rattle.scitt_tool.specs.Meaning.{meaning};
 
+use crate::claims::{Claims, claims_of};
 use crate::consistent::{root_named, size_named};
 use crate::levels::levels_named;
 use hss_keys::Levels;
@@ -32,6 +33,11 @@ pub(crate) enum Command<'a> {
     Keygen {
         levels: Levels,
     },
+    /// `sign ISS SUB TYPE NBF EXP FILE`
+    Sign {
+        claims: Claims<'a>,
+        file: &'a str,
+    },
     /// `attach STATEMENT RECEIPT`
     Attach {
         statement: &'a str,
@@ -60,7 +66,8 @@ impl Command<'_> {
             Command::Root { file }
             | Command::Show { file }
             | Command::Policy { file }
-            | Command::Audit { file } => first(place, file),
+            | Command::Audit { file }
+            | Command::Sign { file, .. } => first(place, file),
             Command::Keygen { .. } => None,
             Command::Attach { statement, receipt } => either(place, statement, receipt),
             Command::Verify { trust, statement } => either(place, trust, statement),
@@ -144,6 +151,27 @@ fn with_four<'a>(
     }
 }
 
+fn with_six<'a>(
+    name: &str,
+    issuer: &'a str,
+    subject: &'a str,
+    content_type: &'a str,
+    not_before: &str,
+    expires: &str,
+    file: &'a str,
+) -> Option<Command<'a>>
+    ensures { option_map meaning result
+        ≡ said.with_six name.now issuer.now subject.now content_type.now not_before.now expires.now file.now }
+{
+    match name {
+        "sign" => {
+            let claims = claims_of(issuer, subject, content_type, not_before, expires)?;
+            Some(Command::Sign { claims, file })
+        }
+        _ => None,
+    }
+}
+
 /// The command that these words are, exactly.
 pub(crate) fn command_of(words: &Words) -> Option<Command<'_>>
     ensures { option_map meaning result ≡ said.command_of words.now }
@@ -157,6 +185,15 @@ pub(crate) fn command_of(words: &Words) -> Option<Command<'_>>
             words.word(2),
             words.word(3),
             words.word(4),
+        ),
+        7 => with_six(
+            words.word(0),
+            words.word(1),
+            words.word(2),
+            words.word(3),
+            words.word(4),
+            words.word(5),
+            words.word(6),
         ),
         _ => None,
     }

@@ -4,8 +4,10 @@
 mod answer;
 mod attach;
 mod audit;
+mod claims;
 mod command;
 mod consistent;
+mod draft;
 mod ended;
 mod fault;
 mod file;
@@ -20,9 +22,11 @@ mod random;
 mod root;
 mod run;
 mod show;
+mod sign;
 mod stop;
 mod stops;
 mod verify;
+mod within;
 
 pub use answer::Status;
 pub use laws::words_and_files_have_one_text;

@@ -18,6 +18,7 @@ use crate::keygen::keygen;
 use crate::policy::policy;
 use crate::root::root;
 use crate::show::show;
+use crate::sign::sign;
 use crate::stops::ToolStop;
 use crate::verify::verify;
 use scitt_disk::Disk;
@@ -190,6 +191,7 @@ fn judge<D: Disk, S: Source>(
         Command::Consistent { size, root, .. } => {
             Ok(consistent(alloc, first(read), second(read), *size, root)?)
         }
+        Command::Sign { claims, .. } => sign(alloc, claims, first(read), key),
         Command::Keygen { levels } => keygen(alloc, levels, key, random),
     }
 }

@@ -9,4 +9,4 @@ returns-clause-some c =
 pub returns-clause-one : goal.returns-clause-one
 returns-clause-one c =
     let whole = c.whole_bytes_have_one_answer.ensures in
-    one_text whole.not_both whole.one_item whole.one_fault c.tag_stands_first.ensures c.statements_have_one_answer.ensures.one c.documents_have_one_answer.ensures.one c.messages_have_one_answer.ensures.one c.strict_spelling_is_unique.ensures c.report_laws.ensures.one c.trust_files_have_one_answer.ensures.one c.verdicts_are_one.ensures.one
+    one_text whole.not_both whole.one_item whole.one_fault c.tag_stands_first.ensures c.statements_have_one_answer.ensures.one c.documents_have_one_answer.ensures.one c.messages_have_one_answer.ensures.one c.strict_spelling_is_unique.ensures c.report_laws.ensures.one c.trust_files_have_one_answer.ensures.one c.verdicts_are_one.ensures.one c.journal_laws.ensures.no_log c.journal_laws.ensures.short c.journal_laws.ensures.short_at c.journal_laws.ensures.unique
