@@ -1,5 +1,5 @@
 -- What a key file's records are after its calls.
-use Rattle.std.proofs.Common.{◌≡◌, ℕ, ◌+◌, ◌<◌, ◌≤◌, min, List, [], ◌∷◌, ◌++◌, Option, Some, None, inl, inr, refl, sym, ap, ◌∙◌, subst, arith}
+use Rattle.std.proofs.Common.{◌≡◌, ℕ, ◌+◌, ◌<◌, min, List, [], ◌∷◌, ◌++◌, Option, Some, None, inl, inr, sym, ap, ◌∙◌, subst, arith}
 use Rattle.std.specs.Prelude.{filter_map, fold, Ok, Err}
 use Rattle.std.specs.List.{cons_option}
 use Rattle.std.proofs.lemmas.List.Sums.{fold-append}
@@ -11,10 +11,10 @@ use Rattle.scitt_journal.specs.Layout.{RecordsOf}
 use Rattle.hss_keys.specs.Levels.{capacity}
 use Rattle.key_store.specs.declared.records.KeyHead.{KeyHead}
 use Rattle.key_store.specs.Records.{upto_of}
-use Rattle.key_store.specs.Keys.{reserved_of, KeyStanding, IsSound, Takes, Reserves, IsReservation}
+use Rattle.key_store.specs.Keys.{reserved_of, KeyStanding, IsSound, Takes, Reserves}
 use Rattle.key_store.specs.declared.stops.TakeStop.TheVariants.{Exhausted}
 use Rattle.scitt_tool.specs.Drafts.{TakesNext}
-use Rattle.scitt_tool.specs.Outcome.{KeyAfter, Kept, Keyed, KeyIs, TellKey, IsKey, LeavesRecords}
+use Rattle.scitt_tool.specs.Outcome.{KeyAfter, Kept, Keyed, KeyIs, IsKey, LeavesRecords}
 
 -- one reservation more
 reserved_more : (records : List (List ℕ)) (body : List ℕ) (upto : ℕ) → upto_of body ≡ Some upto → reserved_of (records ++ body ∷ []) ≡ upto

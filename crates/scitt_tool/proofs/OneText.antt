@@ -29,7 +29,7 @@ use Rattle.relying_party.specs.declared.trust.TrustStop.{TrustStop}
 use Rattle.relying_party.specs.Accepts.{Accepts}
 use Rattle.relying_party.specs.OneAnswer.{OneAnswer as OneTrust, OneVerdict}
 use Rattle.scitt_tool.specs.Keygen.{KeygenOf}
-use Rattle.scitt_journal.specs.Layout.{NoLog, Short, RecordsOf}
+use Rattle.scitt_journal.specs.Layout.{NoLog, Short}
 use Rattle.scitt_journal.specs.Laws.{NoLogHasNoRecords, ShortHasNoRecords, ShortIsUnique, RecordsAreUnique}
 use Rattle.hss_keys.specs.Levels.{capacity}
 use Rattle.key_store.specs.declared.records.KeyHead.{KeyHead}

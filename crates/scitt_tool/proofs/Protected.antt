@@ -1,5 +1,5 @@
 -- The protected map of a new statement has strict bytes, and not many.
-use Rattle.std.proofs.Common.{◌≡◌, ℕ, ◌+◌, ◌≤◌, ◌<◌, ◌^◌, true, List, [], ◌∷◌, ◌++◌, length, Option, Some, None, refl, ap, ◌∙◌, lt-ltb, le-leb, arith}
+use Rattle.std.proofs.Common.{◌≡◌, ℕ, ◌≤◌, ◌<◌, ◌^◌, true, List, [], length, Option, Some, None, refl, ap, ◌∙◌, lt-ltb, le-leb, arith}
 use Rattle.std.specs.Prelude.{IfSome}
 use Rattle.std.specs.Str.{is_utf8}
 use Rattle.std.proofs.lemmas.Bool.{and_from}
@@ -8,13 +8,13 @@ use Rattle.cbor_core.specs.declared.heads.Size.TheVariants.{Within, One, Two, Fo
 use Rattle.cbor_core.specs.declared.words.Grammar.TheVariants.{Strict}
 use Rattle.cbor_core.specs.declared.tree.Item.{Item}
 use Rattle.cbor_core.specs.Bytes.{is_below}
-use Rattle.cbor_core.specs.Limits.{longest_string, most_parts}
-use Rattle.cbor_core.specs.Encoding.{size_of, head_size, spell_in, flat, text_or, most}
+use Rattle.cbor_core.specs.Limits.{longest_string}
+use Rattle.cbor_core.specs.Encoding.{size_of, head_size, spell_in, flat, text_or}
 use Rattle.cbor_core.specs.Exact.{strict_text, SpelledIsText}
-use Rattle.cbor_core.specs.Items.{uint_item, nint_item, bytes_item, text_item, map_item}
-use Rattle.cbor_core.specs.Fitting.{all_items, keys_rise, is_strict_item, len_sum, strict_len, StrictIsSpelled, UintFits, NintFits, BytesFit, TextFits, MapFits, UintText, UintLength, NintLength, BytesLength, TextLength, MapLength}
+use Rattle.cbor_core.specs.Items.{uint_item, text_item, map_item}
+use Rattle.cbor_core.specs.Fitting.{all_items, keys_rise, is_strict_item, strict_len, StrictIsSpelled, UintFits, NintFits, BytesFit, TextFits, MapFits, UintText, UintLength, NintLength, BytesLength, TextLength, MapLength}
 use Rattle.scitt_tool.specs.Claims.{Claims, claims_from}
-use Rattle.scitt_tool.specs.Sign.{is_name, names_fit, claim_entries, protected_entries, protected_item}
+use Rattle.scitt_tool.specs.Sign.{names_fit, claim_entries, protected_entries, protected_item}
 use Rattle.scitt_tool.specs.Drafts.{ClaimsWithin}
 
 -- the strict bytes of an item are as many as its parts say

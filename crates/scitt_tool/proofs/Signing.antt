@@ -1,5 +1,5 @@
 -- What signing comes to.
-use Rattle.std.proofs.Common.{◌≡◌, ◌+◌, ◌<◌, ◌≤◌, ◌⊎◌, ℕ, min, Bool, List, [], length, Option, Some, None, Result, Ok, Err, IfOk, true, false, inl, inr, refl, sym, ap, ◌∙◌, subst, le-leb, arith}
+use Rattle.std.proofs.Common.{◌≡◌, ◌+◌, ◌⊎◌, ℕ, min, Bool, List, Option, Some, None, Result, Ok, Err, IfOk, true, false, inl, inr, refl, ap, subst, le-leb}
 use Rattle.std.specs.Prelude.{nat_le, ◌&&◌}
 use Rattle.std.proofs.lemmas.Bool.{and_from, lt-leb}
 use Rattle.lms_tree.specs.declared.types.Level.{Level}
@@ -17,13 +17,12 @@ use Rattle.key_store.specs.Stops.{ExplainsKey}
 use Rattle.statement.specs.Statements.{most_logged}
 use Rattle.scitt_tool.specs.declared.stops.ToolStop.{ToolStop}
 use Rattle.scitt_tool.specs.declared.draft.Draft.{Draft}
-use Rattle.scitt_tool.specs.Answer.{Answer, done, exhausted}
+use Rattle.scitt_tool.specs.Answer.{Answer}
 use Rattle.scitt_tool.specs.Claims.{Claims}
 use Rattle.scitt_tool.specs.Keygen.{kid_of}
-use Rattle.scitt_tool.specs.Outcome.{Outcome, Kept, Keyed, KeyIs, IsOver}
-use Rattle.scitt_tool.specs.Sign.{names_fit, protected_by, logged_len, is_fit, fits, refused_claim, SignedBy, SignOf, NotLoaded}
+use Rattle.scitt_tool.specs.Outcome.{Kept, Keyed, KeyIs, IsOver}
+use Rattle.scitt_tool.specs.Sign.{names_fit, protected_by, logged_len, fits, refused_claim, SignedBy, SignOf, NotLoaded}
 use Rattle.scitt_tool.specs.Drafts.{DraftOf, Drafts, SignsNext}
-use Rattle.scitt_tool.specs.Run.{JudgedOver}
 use Rattle.scitt_tool.proofs.Keys.{is_key, key_is_synced}
 
 and_no : (a b : Bool) → b ≡ false → (a && b) ≡ false

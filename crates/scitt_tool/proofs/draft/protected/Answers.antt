@@ -1,11 +1,8 @@
-use Rattle.std.proofs.Common.{◌≡◌, ◌≤◌, ◌∙◌, ℕ, List, length, true, Option, Err, sym, ap, subst, arith}
+use Rattle.std.proofs.Common.{◌≤◌, ℕ, List, length, Option, Err, ap, subst, arith}
 use Rattle.cbor_core.specs.declared.tree.Item.{Item}
 use Rattle.cbor_core.specs.declared.words.EncodeStop.{EncodeStop}
 use Rattle.cbor_core.specs.declared.words.EncodeStop.TheVariants.{NotStrict}
-use Rattle.cbor_core.specs.Limits.{longest_string}
-use Rattle.cbor_core.specs.Encoding.{most, text_or, Encoded}
-use Rattle.cbor_core.specs.Exact.{strict_text}
-use Rattle.cbor_core.specs.Fitting.{is_strict_item, strict_len}
+use Rattle.cbor_core.specs.Encoding.{text_or, Encoded}
 use Rattle.scitt_tool.specs.Meaning.{claimed}
 use Rattle.scitt_tool.specs.Sign.{protected_item}
 use Rattle.scitt_tool.proofs.Protected.{protected_strict, protected_short, text-length}
