@@ -7,7 +7,7 @@ use Rattle.scitt_tool.specs.declared.stops.ToolStop.{ToolStop}
 use Rattle.scitt_tool.specs.declared.stops.ToolStop.TheVariants.{ReadFault, DiskFault, OutOfMemory}
 use Rattle.scitt_tool.specs.Answer.{Answer, words_refused, unread, too_long}
 use Rattle.scitt_tool.specs.Command.{Command, command_of, files_of, files_read}
-use Rattle.scitt_tool.specs.Outcome.{Outcome, Kept, plain}
+use Rattle.scitt_tool.specs.Outcome.{Outcome, Kept, plain, IsOver}
 use Rattle.scitt_tool.specs.Reads.{FileOf, TellsFiles, ReadAll, StopsAt, ByFiles}
 use Rattle.scitt_tool.specs.ToolText.{Judged, CommandText}
 use Rattle.scitt_tool.specs.Run.{Counts, Outside, HasCauses, JudgedOver, IsDue}
@@ -25,6 +25,14 @@ pub plain_over : (Tells : Type 0) (held : Held) (left : Option (List ℕ)) (comm
 plain_over Tells held left command read answer judged =
     let found = some_random left in
     record { random = found.0; told = found.1; after = Kept; judged = judged held.seen found.0; key = λ _. refl }
+
+-- a command whose outcome is by the key file and its files alone
+pub over_judged : (Tells : Type 0) (old new : Held) (left : Option (List ℕ)) (command : Command) (read : List (List ℕ)) (Of : Outcome → Type 0) (result : Result Answer ToolStop)
+    → IfOk result (IsOver Tells Of old new) → ((random : List ℕ) (outcome : Outcome) → Of outcome → Judged Tells old.seen random command read outcome) → IfOk result (JudgedOver Tells old new left command read)
+over_judged Tells old new left command read Of (Err stop) over judged = tt
+over_judged Tells old new left command read Of (Ok answer) over judged =
+    let found = some_random left in
+    record { random = found.0; told = found.1; after = over.after; judged = judged found.0 (record { answer = answer; key = over.after }) over.comes; key = over.key }
 
 calm : (before now : Counts) (status : ℕ) → now.files ≡ before.files → now.random ≡ before.random → now.key ≡ before.key → status ≢ 3 → status ≢ 6 → HasCauses before now status
 calm before now status files random key three six =

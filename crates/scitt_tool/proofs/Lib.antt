@@ -1,9 +1,14 @@
 pub mod Reading
 pub mod Strings
+pub mod Words
+pub mod Digits
 pub mod Contents
 pub mod Making
 pub mod Attaching
 pub mod Dues
 pub mod Runs
+pub mod Keys
+pub mod Protected
+pub mod Signing
 pub mod OneText
 pub mod SomeText

@@ -1,5 +1,6 @@
 -- Words and files call for one answer: each command's judgement is determined by its file's bytes.
-use Rattle.std.proofs.Common.{◌≡◌, ℕ, ◌++◌, List, [], ◌∷◌, length, map, Bool, Option, Some, None, Result, Ok, Err, inl, inr, refl, sym, ap, subst, ◌∙◌, arith}
+use Rattle.std.proofs.Common.{◌≡◌, ℕ, ◌+◌, min, ◌++◌, List, [], ◌∷◌, length, map, Bool, Option, Some, None, Result, Ok, Err, inl, inr, refl, sym, ap, subst, ◌∙◌, arith}
+use Rattle.std.proofs.lemmas.Bool.{cases_lt}
 use Rattle.std.specs.Prelude.{codes}
 use Rattle.merkle_tree.specs.Mth.{mth}
 use Rattle.cbor_core.specs.declared.words.Grammar.TheVariants.{Strict}
@@ -14,13 +15,28 @@ use Rattle.statement.specs.declared.statement_type.Statement.{Statement}
 use Rattle.statement.specs.declared.stops.ParseStop.{ParseStop}
 use Rattle.statement.specs.OneAnswer.{OneAnswer}
 use Rattle.scitt_tool.specs.Answer.{Answer, done, refused}
-use Rattle.scitt_tool.specs.Command.{Command, Root, Show, Policy, Audit, Keygen, Attach, command_of}
+use Rattle.scitt_tool.specs.Command.{Command, Root, Show, Policy, Audit, Keygen, Sign, Attach, Verify, Consistent, command_of}
 use Rattle.scitt_tool.specs.Reads.{ByFiles}
-use Rattle.scitt_tool.specs.Outcome.{Outcome}
+use Rattle.scitt_tool.specs.Outcome.{Outcome, Keyed, plain, IsKey}
 use Rattle.scitt_tool.specs.Attach.{AttachOf}
 use Rattle.scitt_tool.specs.Audit.{report_answer, AuditOf}
 use Rattle.auditor.specs.Laws.{OneReport}
+use Rattle.scitt_tool.specs.Verify.{verdict_answer, VerifyOf}
+use Rattle.scitt_tool.specs.Consistent.{result_answer, ConsistentOf}
+use Rattle.relying_party.specs.Growth.{AcceptsConsistency}
+use Rattle.relying_party.specs.declared.trust.Trust.{Trust}
+use Rattle.relying_party.specs.declared.trust.TrustStop.{TrustStop}
+use Rattle.relying_party.specs.Accepts.{Accepts}
+use Rattle.relying_party.specs.OneAnswer.{OneAnswer as OneTrust, OneVerdict}
 use Rattle.scitt_tool.specs.Keygen.{KeygenOf}
+use Rattle.scitt_journal.specs.Layout.{NoLog, Short}
+use Rattle.scitt_journal.specs.Laws.{NoLogHasNoRecords, ShortHasNoRecords, ShortIsUnique, RecordsAreUnique}
+use Rattle.hss_keys.specs.Levels.{capacity}
+use Rattle.key_store.specs.declared.records.KeyHead.{KeyHead}
+use Rattle.key_store.specs.Keys.{IsKeyFile, IsFirstBad, key_of, reserved_of}
+use Rattle.key_store.specs.Stops.{HasBad}
+use Rattle.scitt_tool.specs.Claims.{Claims}
+use Rattle.scitt_tool.specs.Sign.{SignedBy, SignOf}
 use Rattle.lms_tree.specs.declared.types.Level.{Level}
 use Rattle.cose_sign1.specs.declared.sign1.Sign1.{Sign1}
 use Rattle.cose_sign1.specs.declared.stops.Sign1Stop.{Sign1Stop}
@@ -152,6 +168,37 @@ one_policy one bytes a b (inr (inr p)) (inr (inr q)) =
 one_audit : OneReport → (bytes : List ℕ) → One (AuditOf bytes)
 one_audit one bytes a b p q = p.is ∙ ap report_answer (one bytes p.report q.report p.says q.says) ∙ sym q.is
 
+-- ---- verify
+
+abbrev Trusts : Type 0
+Trusts = Result Trust TrustStop
+
+same_trust : (s t : Trust) → ◌≡◌ {A = Trusts} (Ok s) (Ok t) → s ≡ t
+same_trust s t e = cc
+
+trust_none : (s : Trust) (p : TrustStop) → ◌≡◌ {A = Trusts} (Ok s) (Err p) → ⊥
+trust_none s p e = cc
+
+one_verify : OneTrust → OneVerdict → (bytes statement : List ℕ) → One (VerifyOf bytes statement)
+one_verify trust verdict bytes statement a b (inl p) (inl q) = p.is ∙ sym q.is
+one_verify trust verdict bytes statement a b (inl p) (inr q) = absurd (trust_none q.trust p.stop (trust bytes (Ok q.trust) (Err p.stop) q.trusted p.first))
+one_verify trust verdict bytes statement a b (inr p) (inl q) = absurd (trust_none p.trust q.stop (trust bytes (Ok p.trust) (Err q.stop) p.trusted q.first))
+one_verify trust verdict bytes statement a b (inr p) (inr q) =
+    let same = same_trust p.trust q.trust (trust bytes (Ok p.trust) (Ok q.trust) p.trusted q.trusted) in
+    let accepts = subst (λ (t : Trust). Accepts t statement p.verdict) same p.accepts in
+    p.is ∙ ap verdict_answer (verdict q.trust statement p.verdict q.verdict accepts q.accepts) ∙ sym q.is
+
+-- ---- consistent
+
+one_consistent : OneTrust → (bytes receipt : List ℕ) (size : ℕ) (root : List ℕ) → One (ConsistentOf bytes receipt size root)
+one_consistent trust bytes receipt size root a b (inl p) (inl q) = p.is ∙ sym q.is
+one_consistent trust bytes receipt size root a b (inl p) (inr q) = absurd (trust_none q.trust p.stop (trust bytes (Ok q.trust) (Err p.stop) q.trusted p.first))
+one_consistent trust bytes receipt size root a b (inr p) (inl q) = absurd (trust_none p.trust q.stop (trust bytes (Ok p.trust) (Err q.stop) p.trusted q.first))
+one_consistent trust bytes receipt size root a b (inr p) (inr q) =
+    let same = same_trust p.trust q.trust (trust bytes (Ok p.trust) (Ok q.trust) p.trusted q.trusted) in
+    let accepts = subst (λ (t : Trust). AcceptsConsistency t receipt size root p.result) same p.accepts in
+    p.is ∙ ap result_answer (accepts ∙ sym q.accepts) ∙ sym q.is
+
 -- ---- attach
 
 same_message : OneMessage → (bytes : List ℕ) (v w : Sign1) → Sign1Of bytes v → Sign1Of bytes w → v ≡ w
@@ -205,6 +252,77 @@ one_keygen levels key random a b (inr (inl p)) (inr (inr q)) = elim (q.none tt) 
 one_keygen levels key random a b (inr (inr p)) (inr (inl q)) = elim (p.none tt) [ inl few ↦ absurd (omega (arith, few, q.six tt)) | inr shut ↦ absurd (shut (q.open_gate tt)) ]
 one_keygen levels key random a b (inr (inr p)) (inr (inr q)) = p.is ∙ sym q.is
 
+-- ---- sign
+
+first_bad : (records : List (List ℕ)) (m n : ℕ) → IsFirstBad records m → IsFirstBad records n → m ≡ n
+first_bad records m n p q =
+    elim (cases_lt m n) [
+      | inl less ↦ (let good = q.before m less in let bad = p.bad in absurd cc)
+      | inr more ↦
+          elim (cases_lt n m) [
+            | inl above ↦ (let good = p.before n above in let bad = q.bad in absurd cc)
+            | inr below ↦ omega (arith, more, below)
+          ]
+    ]
+
+bad_file : (records : List (List ℕ)) (n : ℕ) → IsFirstBad records n → IsKeyFile records → ⊥
+bad_file records n p file = let good = file.each n p.within in let bad = p.bad in absurd cc
+
+module _ (no_log : NoLogHasNoRecords) (short : ShortHasNoRecords) (short_at : ShortIsUnique) (records : RecordsAreUnique) (spelling : OneStrictSpelling) (claims : Claims) (key payload : List ℕ) where
+  one_signed : (head : KeyHead) (next : ℕ) → OneOutcome (SignedBy claims head next payload)
+  one_signed head next a b (inl p) (inl q) = p.is ∙ sym q.is
+  one_signed head next a b (inl p) (inr (inl q)) = let unfit = p.unfit in let fit = q.fit in absurd cc
+  one_signed head next a b (inl p) (inr (inr q)) = let unfit = p.unfit in let fit = q.fit in absurd cc
+  one_signed head next a b (inr (inl p)) (inl q) = let unfit = q.unfit in let fit = p.fit in absurd cc
+  one_signed head next a b (inr (inr p)) (inl q) = let unfit = q.unfit in let fit = p.fit in absurd cc
+  one_signed head next a b (inr (inl p)) (inr (inl q)) = p.is ∙ sym q.is
+  one_signed head next a b (inr (inl p)) (inr (inr q)) = absurd (omega (arith, p.none, q.left))
+  one_signed head next a b (inr (inr p)) (inr (inl q)) = absurd (omega (arith, q.none, p.left))
+  one_signed head next a b (inr (inr p)) (inr (inr q)) =
+      p.is ∙ ap (λ (s : List ℕ). record { answer = done s; key = Keyed head (min (next + head.block) (capacity head.levels)) }) (spelling _ _ _ p.spelled q.spelled) ∙ sym q.is
+
+  one_key : (head other : KeyHead) (next after : ℕ) → IsKey key head next → IsKey key other after → (head ≡ other) × (next ≡ after)
+  one_key head other next after p q =
+      let same = (records key p.records q.records p.rest q.rest p.are q.are).0 in
+      let told : ◌≡◌ {A = Option KeyHead} (Some head) (Some other) = sym p.tell.key ∙ ap key_of same ∙ q.tell.key in
+      (cc, sym p.tell.last ∙ ap reserved_of same ∙ q.tell.last)
+
+  no_key_and_file : NoLog key → (head : KeyHead) (next : ℕ) → IsKey key head next → ⊥
+  no_key_and_file none head next p = (no_log key none).0 p.records p.rest p.are
+
+  short_and_file : (at : ℕ) → Short key at → (head : KeyHead) (next : ℕ) → IsKey key head next → ⊥
+  short_and_file at cut head next p = short key at cut p.records (inr (p.rest, p.are))
+
+  bad_and_key : (n : ℕ) → HasBad key n → (head : KeyHead) (next : ℕ) → IsKey key head next → ⊥
+  bad_and_key n (bodies, (rest, are), bad) head next p =
+      bad_file bodies n bad (subst IsKeyFile (sym (records key bodies p.records rest p.rest are p.are).0) p.tell.file)
+
+  one_bad : (m n : ℕ) → HasBad key m → HasBad key n → m ≡ n
+  one_bad m n (bodies, (rest, are), bad) (others, (left, have), worse) =
+      first_bad bodies m n bad (subst (λ (r : List (List ℕ)). IsFirstBad r n) (sym (records key bodies others rest left are have).0) worse)
+
+  one_sign : OneOutcome (SignOf (Unit {0}) claims key payload)
+  one_sign a b (inl p) (inl q) = p.is ∙ sym q.is
+  one_sign a b (inl p) (inr (inl q)) = absurd ((no_log key (p.none tt)).1 q.at (q.cut tt))
+  one_sign a b (inl p) (inr (inr (inl q))) = (let bad = q.bad tt in absurd ((no_log key (p.none tt)).0 bad.0 bad.1.0 bad.1.1))
+  one_sign a b (inl p) (inr (inr (inr q))) = absurd (no_key_and_file (p.none tt) q.head q.next (q.file tt))
+  one_sign a b (inr (inl p)) (inl q) = absurd ((no_log key (q.none tt)).1 p.at (p.cut tt))
+  one_sign a b (inr (inl p)) (inr (inl q)) =
+      p.is ∙ ap (λ n. plain (refused (codes "refused key short " ++ decimal n))) (short_at key p.at q.at (p.cut tt) (q.cut tt)) ∙ sym q.is
+  one_sign a b (inr (inl p)) (inr (inr (inl q))) = (let bad = q.bad tt in absurd (short key p.at (p.cut tt) bad.0 (inr (bad.1.0, bad.1.1))))
+  one_sign a b (inr (inl p)) (inr (inr (inr q))) = absurd (short_and_file p.at (p.cut tt) q.head q.next (q.file tt))
+  one_sign a b (inr (inr (inl p))) (inl q) = (let bad = p.bad tt in absurd ((no_log key (q.none tt)).0 bad.0 bad.1.0 bad.1.1))
+  one_sign a b (inr (inr (inl p))) (inr (inl q)) = (let bad = p.bad tt in absurd (short key q.at (q.cut tt) bad.0 (inr (bad.1.0, bad.1.1))))
+  one_sign a b (inr (inr (inl p))) (inr (inr (inl q))) =
+      p.is ∙ ap (λ n. plain (refused (codes "refused key bad " ++ decimal n))) (one_bad p.number q.number (p.bad tt) (q.bad tt)) ∙ sym q.is
+  one_sign a b (inr (inr (inl p))) (inr (inr (inr q))) = absurd (bad_and_key p.number (p.bad tt) q.head q.next (q.file tt))
+  one_sign a b (inr (inr (inr p))) (inl q) = absurd (no_key_and_file (q.none tt) p.head p.next (p.file tt))
+  one_sign a b (inr (inr (inr p))) (inr (inl q)) = absurd (short_and_file q.at (q.cut tt) p.head p.next (p.file tt))
+  one_sign a b (inr (inr (inr p))) (inr (inr (inl q))) = absurd (bad_and_key q.number (q.bad tt) p.head p.next (p.file tt))
+  one_sign a b (inr (inr (inr p))) (inr (inr (inr q))) =
+      let same = one_key p.head q.head p.next q.next (p.file tt) (q.file tt) in
+      one_signed q.head q.next a b (subst (λ (n : ℕ). SignedBy claims q.head n payload a) same.1 (subst (λ (h : KeyHead). SignedBy claims h p.next payload a) same.0 p.signed)) q.signed
+
 one_files : (J : List (List ℕ) → Outcome → Type 0) → ((read : List (List ℕ)) → OneOutcome (J read)) → (contents : List (Option (List ℕ))) → OneOutcome (ByFiles J contents)
 one_files J each [] a b p q = each [] a b p q
 one_files J each (None ∷ contents) a b p q = p ∙ sym q
@@ -213,13 +331,16 @@ one_files J each (Some bytes ∷ contents) a b (inl (small, p)) (inr (long, q)) 
 one_files J each (Some bytes ∷ contents) a b (inr (long, p)) (inl (small, q)) = absurd (omega (arith, small, long))
 one_files J each (Some bytes ∷ contents) a b (inr (long, p)) (inr (large, q)) = p ∙ sym q
 
-module _ (never : NeverBoth) (one_item : OneItem) (one_fault : OneWholeFault) (tags : TagStandsFirst) (one : OneAnswer) (document : OneDocument) (message : OneMessage) (spelling : OneStrictSpelling) (report : OneReport) where
+module _ (never : NeverBoth) (one_item : OneItem) (one_fault : OneWholeFault) (tags : TagStandsFirst) (one : OneAnswer) (document : OneDocument) (message : OneMessage) (spelling : OneStrictSpelling) (report : OneReport) (trust : OneTrust) (verdict : OneVerdict) (no_log : NoLogHasNoRecords) (short : ShortHasNoRecords) (short_at : ShortIsUnique) (records : RecordsAreUnique) where
   one_judged : (key random : List ℕ) (command : Command) (read : List (List ℕ)) → OneOutcome (Judged (Unit {0}) key random command read)
   one_judged key random (Root file) read = one_plain (RootOf (first read)) (one_root never one_item one_fault (first read))
   one_judged key random (Show file) read = one_plain (ShowOf (first read)) (one_show tags one (first read))
   one_judged key random (Policy file) read = one_plain (PolicyTextOf (first read)) (one_policy document (first read))
   one_judged key random (Audit file) read = one_plain (AuditOf (first read)) (one_audit report (first read))
+  one_judged key random (Verify _ _) read = one_plain (VerifyOf (first read) (second read)) (one_verify trust verdict (first read) (second read))
+  one_judged key random (Consistent _ _ size root) read = one_plain (ConsistentOf (first read) (second read) size root) (one_consistent trust (first read) (second read) size root)
   one_judged key random (Keygen levels) read = one_keygen levels key random
+  one_judged key random (Sign claims _) read = one_sign no_log short short_at records spelling claims key (first read)
   one_judged key random (Attach statement receipt) read = one_plain (AttachOf (first read) (second read)) (one_attach one message spelling (first read) (second read))
 
   one_command : (key random : List ℕ) (o : Option Command) (contents : List (Option (List ℕ))) → OneOutcome (CommandText (Unit {0}) key random o contents)

@@ -16,7 +16,7 @@ use Rattle.statement.specs.declared.statement_type.Statement.{Statement}
 use Rattle.statement.specs.declared.stops.ParseStop.{ParseStop}
 use Rattle.statement.specs.OneAnswer.{AnswerOf, SomeAnswer}
 use Rattle.scitt_tool.specs.Answer.{Answer, done, refused, words_refused, unread, too_long}
-use Rattle.scitt_tool.specs.Command.{Command, Root, Show, Policy, Audit, Keygen, Attach, command_of}
+use Rattle.scitt_tool.specs.Command.{Command, Root, Show, Policy, Audit, Keygen, Sign, Attach, Verify, Consistent, command_of}
 use Rattle.scitt_tool.specs.Reads.{limit, ByFiles}
 use Rattle.scitt_tool.specs.FaultText.{fault_text}
 use Rattle.cose_sign1.specs.Tbs.{byte_item}
@@ -31,10 +31,16 @@ use Rattle.policy_rules.specs.OneAnswer.{AnswerOf as DocumentAnswer, SomeAnswer 
 use Rattle.scitt_tool.specs.Policy.{policy_lines, PolicyTextOf}
 use Rattle.scitt_tool.specs.Audit.{report_answer, AuditOf}
 use Rattle.auditor.specs.Laws.{SomeReport}
+use Rattle.scitt_tool.specs.Verify.{verdict_answer, VerifyOf}
+use Rattle.scitt_tool.specs.Consistent.{result_answer, ConsistentOf}
+use Rattle.relying_party.specs.Growth.{consistency_result}
+use Rattle.relying_party.specs.declared.trust.Trust.{Trust}
+use Rattle.relying_party.specs.declared.trust.TrustStop.{TrustStop}
+use Rattle.relying_party.specs.OneAnswer.{AnswerOf as TrustAnswer, SomeAnswer as SomeTrust, SomeVerdict}
 use Rattle.scitt_tool.specs.Outcome.{Outcome, Kept, Keyed, plain}
 use Rattle.scitt_tool.specs.Keygen.{KeygenOf, key_bytes, key_lines, public_of, head_from}
 use Rattle.lms_tree.specs.declared.types.Level.{Level}
-use Rattle.scitt_tool.specs.ToolText.{first, Plain, Judged, CommandText, AllBytes, IsNotAttach, NoneAttaches, SomeText}
+use Rattle.scitt_tool.specs.ToolText.{first, second, Plain, Judged, CommandText, AllBytes, MakesNoStatement, NoneIsMade, SomeText}
 
 abbrev Has : (Answer → Type 0) → Type 0
 Has P = (answer : Answer) × P answer
@@ -151,6 +157,17 @@ document_text bytes (Err OutOfMemory) p = absurd p
 some_audit : SomeReport → (bytes : List ℕ) → IsBytes bytes → Has (AuditOf bytes)
 some_audit some bytes fits = let found = some bytes fits in (report_answer found.0, record { report = found.0; says = found.1; is = refl })
 
+some_verdict : SomeVerdict → (bytes statement : List ℕ) → IsBytes statement → (answer : Result Trust TrustStop) → TrustAnswer bytes answer → Has (VerifyOf bytes statement)
+some_verdict some bytes statement fits (Ok trust) p =
+    let found = some trust statement fits in
+    (verdict_answer found.0, inr (record { trust = trust; trusted = p; verdict = found.0; accepts = found.1; is = refl }))
+some_verdict some bytes statement fits (Err stop) p = (refused (codes "refused trust"), inl (record { stop = stop; first = p; is = refl }))
+
+some_growth : (bytes receipt : List ℕ) (size : ℕ) (root : List ℕ) (answer : Result Trust TrustStop) → TrustAnswer bytes answer → Has (ConsistentOf bytes receipt size root)
+some_growth bytes receipt size root (Ok trust) p =
+    (result_answer (consistency_result trust receipt size root), inr (record { trust = trust; trusted = p; result = consistency_result trust receipt size root; accepts = refl; is = refl }))
+some_growth bytes receipt size root (Err stop) p = (refused (codes "refused trust"), inl (record { stop = stop; first = p; is = refl }))
+
 -- ---- outcomes
 
 abbrev HasOutcome : (Outcome → Type 0) → Type 0
@@ -185,6 +202,10 @@ first_bytes : (read : List (List ℕ)) → EachBytes read → IsBytes (first rea
 first_bytes [] each = λ i. omega arith
 first_bytes (bytes ∷ more) each = each.0
 
+second_bytes : (read : List (List ℕ)) → EachBytes read → IsBytes (second read)
+second_bytes [] each = λ i. omega arith
+second_bytes (bytes ∷ more) each = first_bytes more each.1
+
 some_files : (J : List (List ℕ) → Outcome → Type 0) → ((read : List (List ℕ)) → EachBytes read → HasOutcome (J read)) → (contents : List (Option (List ℕ))) → AllBytes contents → HasOutcome (ByFiles J contents)
 some_files J each [] fits = each [] tt
 some_files J each (None ∷ contents) fits = (plain unread, refl)
@@ -194,16 +215,19 @@ some_files J each (Some bytes ∷ contents) fits =
       | inr within ↦ (let rest = some_files (λ more. J (bytes ∷ more)) (λ more all. each (bytes ∷ more) (fits.0, all)) contents fits.1 in (rest.0, inl (within, rest.1)))
     ]
 
-module _ (either : ItemOrFault) (some : SomeAnswer) (document : SomeDocument) (report : SomeReport) where
-  some_judged : (key random : List ℕ) (command : Command) → IsNotAttach command → (read : List (List ℕ)) → EachBytes read → HasOutcome (Judged (Unit {0}) key random command read)
+module _ (either : ItemOrFault) (some : SomeAnswer) (document : SomeDocument) (report : SomeReport) (trust : SomeTrust) (verdict : SomeVerdict) where
+  some_judged : (key random : List ℕ) (command : Command) → MakesNoStatement command → (read : List (List ℕ)) → EachBytes read → HasOutcome (Judged (Unit {0}) key random command read)
   some_judged key random (Root file) other read each = some_plain (RootOf (first read)) (some_root either (first read) (first_bytes read each))
   some_judged key random (Show file) other read each = let found = some (first read) (first_bytes read each) in some_plain (ShowOf (first read)) (shown (first read) found.0 found.1)
   some_judged key random (Policy file) other read each = let found = document (first read) (first_bytes read each) in some_plain (PolicyTextOf (first read)) (document_text (first read) found.0 found.1)
   some_judged key random (Audit file) other read each = some_plain (AuditOf (first read)) (some_audit report (first read) (first_bytes read each))
+  some_judged key random (Verify _ _) other read each = let found = trust (first read) (first_bytes read each) in some_plain (VerifyOf (first read) (second read)) (some_verdict verdict (first read) (second read) (second_bytes read each) found.0 found.1)
+  some_judged key random (Consistent _ _ size root) other read each = let found = trust (first read) (first_bytes read each) in some_plain (ConsistentOf (first read) (second read) size root) (some_growth (first read) (second read) size root found.0 found.1)
   some_judged key random (Keygen levels) other read each = some_keygen levels key random
   some_judged key random (Attach statement receipt) other read each = absurd other
+  some_judged key random (Sign claims file) other read each = absurd other
 
-  some_command : (key random : List ℕ) (o : Option Command) → NoneAttaches o → (contents : List (Option (List ℕ))) → AllBytes contents → HasOutcome (CommandText (Unit {0}) key random o contents)
+  some_command : (key random : List ℕ) (o : Option Command) → NoneIsMade o → (contents : List (Option (List ℕ))) → AllBytes contents → HasOutcome (CommandText (Unit {0}) key random o contents)
   some_command key random None other contents fits = (plain words_refused, refl)
   some_command key random (Some command) other contents fits = some_files (Judged (Unit {0}) key random command) (λ read each. some_judged key random command other read each) contents fits
 

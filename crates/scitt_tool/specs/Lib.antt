@@ -1,3 +1,4 @@
+pub mod Numbers
 pub mod Command
 pub mod Meaning
 pub mod Answer
@@ -15,6 +16,11 @@ pub mod LevelNames
 pub mod Outcome
 pub mod Attach
 pub mod Audit
+pub mod Verify
+pub mod Consistent
 pub mod Keygen
+pub mod Claims
+pub mod Sign
+pub mod Drafts
 pub mod Asking
 pub mod Stopping

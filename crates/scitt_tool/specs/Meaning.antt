@@ -1,9 +1,14 @@
 -- What the code's commands mean.
 use Rattle.std.specs.Prelude.{ℕ, List, map}
 use Rattle.std.specs.Global.{Vec}
+use Rattle.scitt_tool.specs.declared.claims.Claims.{Claims as ReadClaims}
 use Rattle.scitt_tool.specs.declared.command.Command.{Command as Read}
-use Rattle.scitt_tool.specs.declared.command.Command.TheVariants.{Root as ReadRoot, Show as ReadShow, Policy as ReadPolicy, Audit as ReadAudit, Keygen as ReadKeygen, Attach as ReadAttach}
-use Rattle.scitt_tool.specs.Command.{Command, Root, Show, Policy, Audit, Keygen, Attach}
+use Rattle.scitt_tool.specs.declared.command.Command.TheVariants.{Root as ReadRoot, Show as ReadShow, Policy as ReadPolicy, Audit as ReadAudit, Keygen as ReadKeygen, Sign as ReadSign, Attach as ReadAttach, Verify as ReadVerify, Consistent as ReadConsistent}
+use Rattle.scitt_tool.specs.Claims.{Claims, claims_from}
+use Rattle.scitt_tool.specs.Command.{Command, Root, Show, Policy, Audit, Keygen, Sign, Attach, Verify, Consistent}
+
+abbrev pub claimed : ReadClaims → Claims
+claimed c = claims_from c.issuer.now c.subject.now c.content_type.now c.not_before c.expires
 
 abbrev pub meaning : Read → Command
 meaning (ReadRoot file) = Root file.now
@@ -11,7 +16,10 @@ meaning (ReadShow file) = Show file.now
 meaning (ReadPolicy file) = Policy file.now
 meaning (ReadAudit file) = Audit file.now
 meaning (ReadKeygen levels) = Keygen levels
+meaning (ReadSign claims file) = Sign (claimed claims) file.now
 meaning (ReadAttach statement receipt) = Attach statement.now receipt.now
+meaning (ReadVerify trust statement) = Verify trust.now statement.now
+meaning (ReadConsistent trust receipt size root) = Consistent trust.now receipt.now size root
 
 -- what was read of files
 abbrev pub all_read : List (Vec ℕ) → List (List ℕ)

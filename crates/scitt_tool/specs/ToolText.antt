@@ -2,7 +2,7 @@
 use Rattle.std.specs.Prelude.{◌≡◌, ℕ, List, [], ◌∷◌, Option, Some, None}
 use Rattle.cbor_core.specs.Bytes.{IsBytes}
 use Rattle.scitt_tool.specs.Answer.{Answer, words_refused}
-use Rattle.scitt_tool.specs.Command.{Command, Root, Show, Policy, Audit, Keygen, Attach, command_of}
+use Rattle.scitt_tool.specs.Command.{Command, Root, Show, Policy, Audit, Keygen, Sign, Attach, Verify, Consistent, command_of}
 use Rattle.scitt_tool.specs.Outcome.{Outcome, Kept, plain}
 use Rattle.scitt_tool.specs.Reads.{ByFiles}
 use Rattle.scitt_tool.specs.Root.{RootOf}
@@ -10,7 +10,10 @@ use Rattle.scitt_tool.specs.Show.{ShowOf}
 use Rattle.scitt_tool.specs.Policy.{PolicyTextOf}
 use Rattle.scitt_tool.specs.Audit.{AuditOf}
 use Rattle.scitt_tool.specs.Attach.{AttachOf}
+use Rattle.scitt_tool.specs.Verify.{VerifyOf}
+use Rattle.scitt_tool.specs.Consistent.{ConsistentOf}
 use Rattle.scitt_tool.specs.Keygen.{KeygenOf}
+use Rattle.scitt_tool.specs.Sign.{SignOf}
 
 -- the bytes of the first and of the second file
 abbrev pub first : List (List ℕ) → List ℕ
@@ -32,7 +35,10 @@ Judged Tells key random (Show file) read = Plain (ShowOf (first read))
 Judged Tells key random (Policy file) read = Plain (PolicyTextOf (first read))
 Judged Tells key random (Audit file) read = Plain (AuditOf (first read))
 Judged Tells key random (Attach statement receipt) read = Plain (AttachOf (first read) (second read))
+Judged Tells key random (Verify trust statement) read = Plain (VerifyOf (first read) (second read))
+Judged Tells key random (Consistent trust receipt size root) read = Plain (ConsistentOf (first read) (second read) size root)
 Judged Tells key random (Keygen levels) read = KeygenOf Tells levels key random
+Judged Tells key random (Sign claims file) read = SignOf Tells claims key (first read)
 
 abbrev pub CommandText : Type 0 → List ℕ → List ℕ → Option Command → List (Option (List ℕ)) → Outcome → Type 0
 CommandText Tells key random None contents outcome = outcome ≡ plain words_refused
@@ -48,18 +54,19 @@ AllBytes [] = Unit {0}
 AllBytes (None ∷ contents) = AllBytes contents
 AllBytes (Some bytes ∷ contents) = IsBytes bytes × AllBytes contents
 
--- a command is another than `attach`, whose outcome hangs on whether the longer statement has strict bytes
-abbrev pub IsNotAttach : Command → Type 0
-IsNotAttach (Attach statement receipt) = ⊥
-IsNotAttach _ = Unit {0}
+-- a command is another than `attach` and `sign`, whose outcome hangs on whether the statement that they make has strict bytes
+abbrev pub MakesNoStatement : Command → Type 0
+MakesNoStatement (Attach statement receipt) = ⊥
+MakesNoStatement (Sign claims file) = ⊥
+MakesNoStatement _ = Unit {0}
 
-abbrev pub NoneAttaches : Option Command → Type 0
-NoneAttaches None = Unit {0}
-NoneAttaches (Some command) = IsNotAttach command
+abbrev pub NoneIsMade : Option Command → Type 0
+NoneIsMade None = Unit {0}
+NoneIsMade (Some command) = MakesNoStatement command
 
--- words, contents of files, a key file and random bytes call for an outcome, where the command is another than `attach`
+-- words, contents of files, a key file and random bytes call for an outcome, where the command is another than `attach` and `sign`
 abbrev pub SomeText : Type 0
-SomeText = (key random : List ℕ) (words : List (List ℕ)) (contents : List (Option (List ℕ))) → NoneAttaches (command_of words) → AllBytes contents
+SomeText = (key random : List ℕ) (words : List (List ℕ)) (contents : List (Option (List ℕ))) → NoneIsMade (command_of words) → AllBytes contents
     → (outcome : Outcome) × ToolText (Unit {0}) key random words contents outcome
 
 -- and for no two

@@ -3,8 +3,11 @@ ghost use Rattle.std.specs.Option.{option_map, option_copied};
 ghost use Rattle.scitt_tool.specs.Command as said;
 ghost use Rattle.scitt_tool.specs.Meaning.{meaning};
 
+use crate::claims::{Claims, claims_of};
+use crate::consistent::{root_named, size_named};
 use crate::levels::levels_named;
 use hss_keys::Levels;
+use merkle_tree::Hash;
 use scitt_io::Words;
 
 /// A command with its arguments.
@@ -30,10 +33,27 @@ pub(crate) enum Command<'a> {
     Keygen {
         levels: Levels,
     },
+    /// `sign ISS SUB TYPE NBF EXP FILE`
+    Sign {
+        claims: Claims<'a>,
+        file: &'a str,
+    },
     /// `attach STATEMENT RECEIPT`
     Attach {
         statement: &'a str,
         receipt: &'a str,
+    },
+    /// `verify TRUST STATEMENT`
+    Verify {
+        trust: &'a str,
+        statement: &'a str,
+    },
+    /// `consistent TRUST RECEIPT SIZE ROOT`
+    Consistent {
+        trust: &'a str,
+        receipt: &'a str,
+        size: u32,
+        root: Hash,
     },
 }
 
@@ -46,9 +66,12 @@ impl Command<'_> {
             Command::Root { file }
             | Command::Show { file }
             | Command::Policy { file }
-            | Command::Audit { file } => first(place, file),
+            | Command::Audit { file }
+            | Command::Sign { file, .. } => first(place, file),
             Command::Keygen { .. } => None,
             Command::Attach { statement, receipt } => either(place, statement, receipt),
+            Command::Verify { trust, statement } => either(place, trust, statement),
+            Command::Consistent { trust, receipt, .. } => either(place, trust, receipt),
         }
     }
 }
@@ -96,6 +119,55 @@ fn with_two<'a>(name: &str, first: &'a str, second: &'a str) -> Option<Command<'
             statement: first,
             receipt: second,
         }),
+        "verify" => Some(Command::Verify {
+            trust: first,
+            statement: second,
+        }),
+        _ => None,
+    }
+}
+
+fn with_four<'a>(
+    name: &str,
+    trust: &'a str,
+    receipt: &'a str,
+    size: &str,
+    root: &str,
+) -> Option<Command<'a>>
+    ensures { option_map meaning result ≡ said.with_four name.now trust.now receipt.now size.now root.now }
+{
+    match name {
+        "consistent" => {
+            let size = size_named(size)?;
+            let root = root_named(root)?;
+            Some(Command::Consistent {
+                trust,
+                receipt,
+                size,
+                root,
+            })
+        }
+        _ => None,
+    }
+}
+
+fn with_six<'a>(
+    name: &str,
+    issuer: &'a str,
+    subject: &'a str,
+    content_type: &'a str,
+    not_before: &str,
+    expires: &str,
+    file: &'a str,
+) -> Option<Command<'a>>
+    ensures { option_map meaning result
+        ≡ said.with_six name.now issuer.now subject.now content_type.now not_before.now expires.now file.now }
+{
+    match name {
+        "sign" => {
+            let claims = claims_of(issuer, subject, content_type, not_before, expires)?;
+            Some(Command::Sign { claims, file })
+        }
         _ => None,
     }
 }
@@ -107,6 +179,22 @@ pub(crate) fn command_of(words: &Words) -> Option<Command<'_>>
     match words.len() {
         2 => with_one(words.word(0), words.word(1)),
         3 => with_two(words.word(0), words.word(1), words.word(2)),
+        5 => with_four(
+            words.word(0),
+            words.word(1),
+            words.word(2),
+            words.word(3),
+            words.word(4),
+        ),
+        7 => with_six(
+            words.word(0),
+            words.word(1),
+            words.word(2),
+            words.word(3),
+            words.word(4),
+            words.word(5),
+            words.word(6),
+        ),
         _ => None,
     }
 }

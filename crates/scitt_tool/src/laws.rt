@@ -4,10 +4,12 @@ use auditor::report_laws;
 use cbor_core::{strict_spelling_is_unique, whole_bytes_have_one_answer};
 use cose_sign1::{messages_have_one_answer, tag_stands_first};
 use policy_rules::documents_have_one_answer;
+use relying_party::{trust_files_have_one_answer, verdicts_are_one};
+use scitt_journal::journal_laws;
 use statement::statements_have_one_answer;
 
 /// A law: words, files, a key file and random bytes call for at most one status, text and key file afterwards, and where the
-/// command is another than `attach`, for one.
+/// command is another than `attach` and `sign`, for one.
 pub fn words_and_files_have_one_text()
     ensures some { SomeText }
     ensures one { OneText }
@@ -19,4 +21,7 @@ pub fn words_and_files_have_one_text()
     statements_have_one_answer();
     documents_have_one_answer();
     report_laws();
+    trust_files_have_one_answer();
+    verdicts_are_one();
+    journal_laws();
 }

@@ -12,12 +12,15 @@ use crate::answer::{Answer, Status, disk_fault, too_long, unread, words_refused}
 use crate::attach::attach;
 use crate::audit::audit;
 use crate::command::{Command, command_of};
+use crate::consistent::consistent;
 use crate::file::read_files;
 use crate::keygen::keygen;
 use crate::policy::policy;
 use crate::root::root;
 use crate::show::show;
+use crate::sign::sign;
 use crate::stops::ToolStop;
+use crate::verify::verify;
 use scitt_disk::Disk;
 use scitt_io::{Folder, ReadStop, Sink, Source, Words};
 use std::alloc::{AllocError, Global};
@@ -184,6 +187,11 @@ fn judge<D: Disk, S: Source>(
         Command::Policy { .. } => Ok(policy(alloc, first(read))?),
         Command::Audit { .. } => Ok(audit(alloc, first(read))?),
         Command::Attach { .. } => Ok(attach(alloc, first(read), second(read))?),
+        Command::Verify { .. } => Ok(verify(alloc, first(read), second(read))?),
+        Command::Consistent { size, root, .. } => {
+            Ok(consistent(alloc, first(read), second(read), *size, root)?)
+        }
+        Command::Sign { claims, .. } => sign(alloc, claims, first(read), key),
         Command::Keygen { levels } => keygen(alloc, levels, key, random),
     }
 }

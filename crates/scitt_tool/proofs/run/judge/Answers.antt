@@ -1,5 +1,5 @@
 use Rattle.std.proofs.Common.{refl}
-use Rattle.scitt_tool.proofs.Dues.{plain_over}
+use Rattle.scitt_tool.proofs.Dues.{plain_over, over_judged}
 use Rattle.scitt_tool.proofs.run.judge.Goals as goal
 
 pub returns-in_ok-root-in-Root-clause-judged : goal.returns-in_ok-root-in-Root-clause-judged
@@ -23,3 +23,17 @@ pub returns-in_ok-attach-in-Attach-clause-judged :
     goal.returns-in_ok-attach-in-Attach-clause-judged
 returns-in_ok-attach-in-Attach-clause-judged g c =
     rw c.in-Attach.is (plain_over _ _ _ _ _ _ (λ key random. (rw (c.first-in-Attach.ensures, c.second.ensures) at c.in_ok-attach-in-Attach.ensures, refl)))
+
+pub returns-in_ok-verify-in-Verify-clause-judged :
+    goal.returns-in_ok-verify-in-Verify-clause-judged
+returns-in_ok-verify-in-Verify-clause-judged g c =
+    rw c.in-Verify.is (plain_over _ _ _ _ _ _ (λ key random. (rw (c.first-in-Verify.ensures, c.second-in-Verify.ensures) at c.in_ok-verify-in-Verify.ensures, refl)))
+
+pub returns-in_ok-consistent-in-Consistent-clause-judged :
+    goal.returns-in_ok-consistent-in-Consistent-clause-judged
+returns-in_ok-consistent-in-Consistent-clause-judged g c =
+    rw c.in-Consistent.is (plain_over _ _ _ _ _ _ (λ key random. (rw (c.first-in-Consistent.ensures, c.second-in-Consistent.ensures) at c.in_ok-consistent-in-Consistent.ensures, refl)))
+
+pub returns-in-Sign-clause-judged : goal.returns-in-Sign-clause-judged
+returns-in-Sign-clause-judged g c =
+    rw c.in-Sign.is (over_judged _ _ _ _ _ _ _ _ (rw c.first-in-Sign.ensures at c.sign.ensures.over) (λ random outcome signed. signed))
