@@ -1,0 +1,10 @@
+pub mod Lists
+pub mod Standing
+pub mod EntryParts
+pub mod Meaning
+pub mod Items
+pub mod Paths
+pub mod RecordBytes
+pub mod EntryBytes
+pub mod Own
+pub mod Accepted
