@@ -87,7 +87,7 @@ pub one_part : {E : Type 0} (e : Exchange) (taken mid taken' : Option (List ℕ)
     → Writes (e ∷ []) taken taken' (Some end.WriteFault)
 one_part e taken mid taken' d same w =
     let p = front_part (answer_bytes e.answer) mid taken' d w in
-    (p.0, rw append-nil p.1, rw (append-nil, ← same) p.2)
+    (p.0, omega arith, rw append-nil p.1, rw (append-nil, ← same) p.2)
 
 pub one_whole : {E : Type 0} (e : Exchange) (taken mid taken' : Option (List ℕ)) → mid ≡ taken → WritesFront {E = E} (answer_bytes e.answer) mid taken' (Ok tt)
     → Appends taken taken' (text_of (e ∷ []))

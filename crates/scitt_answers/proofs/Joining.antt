@@ -1,5 +1,5 @@
 -- Exchanges one after another are a session.
-use Rattle.std.proofs.Common.{◌≡◌, ℕ, suc, ◌+◌, inl, inr, List, [], ◌∷◌, ◌++◌, length, take, Bool, Option, None, Some, refl, sym, ap, ◌∙◌, subst, arith, append_assoc, append-nil, length-append}
+use Rattle.std.proofs.Common.{◌≡◌, ℕ, suc, ◌+◌, ◌≤◌, inl, inr, List, [], ◌∷◌, ◌++◌, length, take, Bool, Option, None, Some, refl, sym, ap, ◌∙◌, subst, arith, append_assoc, append-nil, length-append}
 use Rattle.std.proofs.lemmas.List.{map-append}
 use Rattle.std.proofs.KnownBytes.{Consumes-trans, Appends-trans}
 use Rattle.std.proofs.lemmas.Grind.{flat_map-append}
@@ -11,7 +11,7 @@ use Rattle.scitt_answers.specs.declared.serving.SessionEnd.{SessionEnd}
 use Rattle.scitt_answers.specs.declared.serving.SessionEnd.TheVariants as end
 use Rattle.scitt_answers.specs.Marks.{Mark, Step, Chain, Next, LeavesSize}
 use Rattle.scitt_answers.specs.Exchanges.{ClockState, Asked, request, refused, Exchange, EachIs, Counts}
-use Rattle.scitt_answers.specs.Sessions.{ReadsAsked, AreOpen, AllOpen, asked_in, steps_in, EndsIn, text_of, Writes, Ends, LatestIs, Served}
+use Rattle.scitt_answers.specs.Sessions.{ReadsAsked, AreOpen, AllOpen, asked_in, steps_in, EndsIn, text_of, length_before, Writes, Ends, LatestIs, Served}
 
 -- a request stays at the front when more bytes come
 pub request_more : {bytes rest : List ℕ} {q : Request} (more : List ℕ) → IsRequest bytes q rest → IsRequest (bytes ++ more) q (rest ++ more)
@@ -89,6 +89,13 @@ ends_in_then es fs P h k = record {
   how = k.how;
 }
 
+-- what stands before the last answer of both stands before that of the second, or in the first
+before_then : (es fs : List Exchange) → length_before (es ++ fs) ≤ length (text_of es) + length_before fs
+before_then [] fs = omega arith
+before_then (e ∷ []) [] = omega arith
+before_then (e ∷ []) (f ∷ fs) = omega (arith, length-append (answer_bytes e.answer) [])
+before_then (e ∷ d ∷ es) fs = omega (arith, before_then (d ∷ es) fs, length-append (answer_bytes e.answer) (text_of (d ∷ es)))
+
 take_past : (xs ys : List ℕ) (n : ℕ) → take (length xs + n) (xs ++ ys) ≡ xs ++ take n ys
 take_past [] ys n = ap (λ (k : ℕ). take k ys) (omega arith)
 take_past (x ∷ xs) ys n = ap (λ (k : ℕ). take k (x ∷ (xs ++ ys))) (let e : length (x ∷ xs) + n ≡ suc (length xs + n) = omega arith in e) ∙ ap (λ (zs : List ℕ). x ∷ zs) (take_past xs ys n)
@@ -97,8 +104,9 @@ pub writes_then : (es fs : List Exchange) (taken taken' taken'' : Option (List �
     → Appends taken taken' (text_of es) → Writes fs taken' taken'' how → Writes (es ++ fs) taken taken'' how
 writes_then es fs taken taken' taken'' (Some end.WriteFault) h k = (
   length (text_of es) + k.0,
-  rw text_then (omega (arith, length-append (text_of es) (text_of fs), k.1)),
-  rw (text_then, take_past) (Appends-trans _ _ _ _ _ h k.2),
+  omega (arith, before_then es fs, k.1),
+  rw text_then (omega (arith, length-append (text_of es) (text_of fs), k.2)),
+  rw (text_then, take_past) (Appends-trans _ _ _ _ _ h k.3),
 )
 writes_then es fs taken taken' taken'' None h k = rw text_then (Appends-trans _ _ _ _ _ h k)
 writes_then es fs taken taken' taken'' (Some end.Ended) h k = rw text_then (Appends-trans _ _ _ _ _ h k)

@@ -1,5 +1,5 @@
 -- A session: the requests of the bytes read, the turns made for them, and the answers written.
-use Rattle.std.specs.Prelude.{◌≡◌, ℕ, ◌+◌, ◌<◌, ◌⊎◌, List, [], ◌∷◌, ◌++◌, length, map, flat_map, take, Bool, true, false, Option, None, Some, ⊤}
+use Rattle.std.specs.Prelude.{◌≡◌, ℕ, ◌+◌, ◌<◌, ◌≤◌, ◌⊎◌, List, [], ◌∷◌, ◌++◌, length, map, flat_map, take, Bool, true, false, Option, None, Some, ⊤}
 use Rattle.std.specs.Io.KnownBytes.{Consumes, Appends, IsAtEnd}
 use Rattle.http_wire.specs.Requests.{IsRequest, IsHeadFault, EndsInside}
 use Rattle.http_wire.specs.Answering.{answer_bytes}
@@ -51,10 +51,16 @@ IsClosing (refused why of_head) = ⊥
 abbrev pub text_of : List Exchange → List ℕ
 text_of es = flat_map (λ e. answer_bytes e.answer) es
 
--- what was written: the whole text, or a part of it from the front after a fault
+-- how many bytes the answers before the last have
+abbrev pub length_before : List Exchange → ℕ
+length_before [] = 0
+length_before (e ∷ []) = 0
+length_before (e ∷ f ∷ es) = length (answer_bytes e.answer) + length_before (f ∷ es)
+
+-- what was written: the whole text, or after a fault a part of it from the front, with all answers before the last
 abbrev pub Writes : List Exchange → Option (List ℕ) → Option (List ℕ) → Option SessionEnd → Type 0
 Writes es taken taken' (Some end.WriteFault) =
-    (n : ℕ) × (n < length (text_of es)) × Appends taken taken' (take n (text_of es))
+    (n : ℕ) × (length_before es ≤ n) × (n < length (text_of es)) × Appends taken taken' (take n (text_of es))
 Writes es taken taken' _ = Appends taken taken' (text_of es)
 
 -- how the requests come to an end; none: they go on with the request of the next number
