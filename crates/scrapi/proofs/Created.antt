@@ -1,6 +1,7 @@
 -- What an answer to a registration tells of the log that its turn found.
 use Rattle.std.proofs.Common.{◌≡◌, ℕ, ◌==◌, nat_lt, List, [], ◌∷◌, length, Bool, true, false, IsTrue, Option, None, Some, refl, sym, ap, ◌∙◌, subst, arith}
 use Rattle.std.specs.Prelude.{option_map, unwrap_or}
+use Rattle.std.proofs.lemmas.Bool.{eqb-true}
 use Rattle.cbor_core.specs.Rows.{first_row}
 use Rattle.hss_keys.specs.Levels.{capacity}
 use Rattle.http_wire.specs.declared.request.Request.{Request}
@@ -106,9 +107,6 @@ abbrev SpentAt : ℕ → Ruling → Type 0
 SpentAt at (spent next most) = (next ≡ at) × (next ≡ most)
 SpentAt at _ = Unit {0}
 
-eq_true : (a b : ℕ) → (a == b) ≡ true → a ≡ b
-eq_true a b e = omega (arith, e)
-
 rows_spent : (a b c : Bool) (e n f k at most rule : ℕ) → (c ≡ true → at ≡ most)
     → SpentAt at (unwrap_or (first_row ((a, full e n) ∷ (b, full f k) ∷ (c, spent at most) ∷ [])) (goes rule))
 rows_spent true b c e n f k at most rule same = tt
@@ -122,7 +120,7 @@ ruled_spent h S s (judged.Deny rule) = tt
 ruled_spent h S s (judged.Admit rule) =
     let n : ℕ = length (entries_of S.log) in
     let bytes : ℕ = bytes_with S s in
-    rows_spent (n == h.max_entries) (nat_lt most_logged_bytes bytes) (S.next == capacity h.levels) n bytes n bytes S.next (capacity h.levels) rule (eq_true S.next (capacity h.levels))
+    rows_spent (n == h.max_entries) (nat_lt most_logged_bytes bytes) (S.next == capacity h.levels) n bytes n bytes S.next (capacity h.levels) rule (eqb-true S.next (capacity h.levels))
 
 found_spent : (o : Option Header) (S : Standing) (s : Said) (J : Header → Judgement) (r : Ruling) → option_map (λ h. ruling_on h S s (J h)) o ≡ Some r → SpentAt S.next r
 found_spent None S s J r e = cc e
