@@ -2,6 +2,10 @@
 #![tactic(auto)]
 
 #[cfg(test)]
+mod attaching;
+#[cfg(test)]
+mod keys;
+#[cfg(test)]
 mod objects;
 #[cfg(test)]
 mod outside;
@@ -13,3 +17,7 @@ mod rows;
 mod runs;
 #[cfg(test)]
 mod shows;
+#[cfg(test)]
+mod transparent;
+#[cfg(test)]
+mod trusting;
