@@ -5,7 +5,7 @@ ghost use Rattle.std.specs.IoError.{error_kind};
 ghost use Rattle.std.specs.String.{string_bytes};
 ghost use Rattle.std.specs.Vec.Iter.{into_iter_items};
 ghost use Rattle.scittd.specs.Words.{given_in};
-ghost use Rattle.scittd.specs.declared.fault.StartFault.TheVariants.{WordsRefused, NoMemory};
+ghost use Rattle.scittd.specs.declared.fault.StartFault.TheVariants.{WordsRefused, AddressRefused, NoMemory};
 ghost use Rattle.scittd.specs.Seats.{IsSeated};
 
 use crate::fault::StartFault;
@@ -24,11 +24,13 @@ use std::io::{ErrorKind, Input};
 use std::net::{Net, TcpListener, TcpStream};
 use std::rt::Files;
 
-/// Listens at this address.
+/// Listens at this address. `AddressRefused` where the system refuses it, and `NoMemory` is the want of memory alone.
 fn listen_at<R: Net<Listener = TcpListener, Stream = TcpStream>>(
     rt: &R,
     address: &str,
-) -> Result<TcpListener, StartFault> {
+) -> Result<TcpListener, StartFault>
+    ensures no_other { IfErr result (λ fault. (fault ≡ AddressRefused) ⊎ (fault ≡ NoMemory)) }
+{
     match TcpListener::bind(rt, address) {
         Ok(listener) => Ok(listener),
         Err(error) if error.kind() == ErrorKind::OutOfMemory => Err(StartFault::NoMemory),
