@@ -5,8 +5,10 @@ mod clock;
 mod decoding;
 mod laws;
 mod reading;
+mod replaying;
 mod script;
 
 pub use decoding::decode;
 pub use laws::bytes_are_one_script;
+pub use replaying::{Replayed, replay};
 pub use script::{Script, ScriptStop};
