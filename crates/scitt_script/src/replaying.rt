@@ -1,9 +1,10 @@
 // A script that is replayed.
 
-ghost use Rattle.std.specs.Prelude.{◌≡◌, true, IfOk, IfErr, OnOk};
+ghost use Rattle.std.specs.Prelude.{◌≡◌, true, false, IfOk, IfErr, OnOk};
 ghost use Rattle.log_replay.specs.WellMade.{is_within_limits};
 ghost use Rattle.registrar.specs.Opening.{begun, header_with};
 ghost use Rattle.scitt_disk.specs.Memory.{plan_of};
+ghost use Rattle.scitt_answers.specs.declared.serving.SessionEnd.TheVariants as end_of;
 ghost use Rattle.scitt_script.specs.declared.script.ScriptStop.TheVariants as stop_of;
 ghost use Rattle.scitt_script.specs.Replays.{IsSession, RefusedBy, ReplayOf, header_in};
 
@@ -49,24 +50,35 @@ fn begin(
     }
 }
 
-// A session with this log.
+// Whether memory was wanting: no call of the disk or of the link is made to fail.
+fn lacks_memory(log: &Registrar<MemDisk>, link: &MemLink, end: SessionEnd) -> bool
+    ensures disk { result ≡ false → (plan_of log.now.disk).faults ≡ 0 }
+    ensures reads { result ≡ false → link.now.faults ≡ 0 }
+    ensures writes { result ≡ false → link.now.refused ≡ 0 }
+    ensures memory { result ≡ false → end ≡ end_of.OutOfMemory → ⊥ }
+{
+    log.faults() > 0 || link.faults() > 0 || end == SessionEnd::OutOfMemory
+}
+
+// A session with a log on a disk that hasn't failed.
 fn serve_all(
     alloc: Global,
-    log: Registrar<MemDisk>,
+    log: &mut Registrar<MemDisk>,
     moments: &Items<u64>,
     session: &Bytes,
 ) -> Result<Replayed, ScriptStop>
-    requires { (plan_of log.disk).faults ≡ 0 }
-    ensures session { IfOk result (λ r. IsSession log.standing moments.now session.now r.end r.text.items) }
+    requires { (plan_of log.old.disk).faults ≡ 0 }
+    ensures session { IfOk result (λ r. IsSession log.old.standing moments.now session.now r.end r.text.items) }
     ensures memory { IfErr result (λ stop. stop ≡ stop_of.OutOfMemory) }
 {
-    let mut log = log;
+    let given = Vec::from_slice(alloc, moments.as_slice())?;
     let sent = Vec::from_slice(alloc, session.as_slice())?;
+    let mut clock = ScriptClock::new(alloc, given);
     let mut link = MemLink::new(alloc, sent, Vec::new(alloc));
-    let mut clock = ScriptClock::new(alloc, Vec::from_slice(alloc, moments.as_slice())?);
-    let end = serve_local(alloc, &mut log, &mut link, &mut clock);
+    let end = serve_local(alloc, log, &mut link, &mut clock);
     clock.is_late();
-    if log.faults() > 0 || link.faults() > 0 || end == SessionEnd::OutOfMemory {
+    let lacks = lacks_memory(log, &link, end);
+    if lacks {
         return Err(ScriptStop::OutOfMemory);
     }
     Ok(Replayed {
@@ -91,6 +103,6 @@ pub fn replay(alloc: Global, script: Script) -> Result<Replayed, ScriptStop>
         moments,
         session,
     } = script;
-    let log = begin(alloc, seed, id, params)?;
-    serve_all(alloc, log, &moments, &session)
+    let mut log = begin(alloc, seed, id, params)?;
+    serve_all(alloc, &mut log, &moments, &session)
 }
