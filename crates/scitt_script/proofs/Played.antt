@@ -1,5 +1,5 @@
 -- A session from its parts.
-use Rattle.std.proofs.Common.{◌≡◌, ◌⊎◌, ◌+◌, ◌^◌, ◌-◌, ◌≤◌, min, ℕ, List, [], ◌∷◌, ◌++◌, true, Some, refl, subst, arith}
+use Rattle.std.proofs.Common.{◌≡◌, ◌⊎◌, ℕ, List, [], true, Some, refl, subst, arith}
 use Rattle.scitt_io.specs.Causes.{Rose}
 use Rattle.http_wire.specs.Taking.{HasReadCause}
 use Rattle.registrar.specs.Turns.{Standing}
@@ -8,7 +8,7 @@ use Rattle.scitt_answers.specs.declared.serving.SessionEnd.TheVariants as end
 use Rattle.scitt_answers.specs.Marks.{Mark}
 use Rattle.scitt_answers.specs.Exchanges.{Exchange}
 use Rattle.scitt_answers.specs.Sessions.{Served, Writes, text_of}
-use Rattle.scitt_script.specs.Replays.{IsSession, IsWholeEnd, ServesAlone, clock_with}
+use Rattle.scitt_script.specs.Replays.{IsSession, IsWholeEnd, clock_with}
 
 abbrev mark_with : Standing → ℕ → Mark
 mark_with standing faults = record { standing = standing; faults = faults }

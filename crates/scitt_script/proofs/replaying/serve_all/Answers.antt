@@ -1,4 +1,4 @@
-use Rattle.std.proofs.Common.{◌≡◌, [], rules, sym, ap, ◌∙◌}
+use Rattle.std.proofs.Common.{◌≡◌, rules, sym, ap}
 use Rattle.scitt_io.specs.Memory.{Connection}
 use Rattle.scitt_disk.specs.Memory.{plan_of}
 use Rattle.scitt_script.proofs.Played.{session_by, whole_end}
