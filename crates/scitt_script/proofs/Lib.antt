@@ -1,0 +1,4 @@
+pub mod Answered
+pub mod Late
+pub mod Played
+pub mod Whole
