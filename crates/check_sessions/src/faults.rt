@@ -1,5 +1,5 @@
 // Links, clocks and disks that fail.
-use crate::talking::{empty_log, get, heard, post};
+use crate::talking::{empty_log, get, listen, post};
 use scitt_answers::SessionEnd;
 use std::test::Fail;
 use test_cast::{genesis, issued, new_cast};
@@ -25,7 +25,7 @@ fn a_clock_fails_at_its_second_call(rt: HostRuntime) -> Result<(), Fail> {
     post(alloc, &mut sent, &genesis)?;
     get(&mut sent, "/entries/0")?;
     post(alloc, &mut sent, &acme)?;
-    let heard = heard(alloc, &mut log, sent, &[1_000, 2_000], &[], &[1])?;
+    let heard = listen(alloc, &mut log, sent, &[1_000, 2_000], &[], &[1])?;
     assert!(rt; heard.end == SessionEnd::Ended);
     assert!(rt; heard.text.ends_with(CLOCK));
     assert_eq!(rt; heard.clock_faults, 1);
@@ -44,7 +44,7 @@ fn a_disk_fails_at_each_call(rt: HostRuntime) -> Result<(), Fail> {
         let mut sent = Vec::new(alloc);
         post(alloc, &mut sent, &genesis)?;
         post(alloc, &mut sent, &genesis)?;
-        let heard = heard(alloc, &mut log, sent, &[1_000, 1_000], &[], &[])?;
+        let heard = listen(alloc, &mut log, sent, &[1_000, 1_000], &[], &[])?;
         assert!(rt; heard.end == SessionEnd::Ended);
         assert!(rt; heard.text.starts_with(DISK));
         let second = heard.text.get(DISK.len()..).ok_or("one answer")?;
@@ -67,7 +67,7 @@ fn a_link_fails_at_each_call(rt: HostRuntime) -> Result<(), Fail> {
         let mut sent = Vec::new(alloc);
         get(&mut sent, "/entries/0")?;
         get(&mut sent, "/policy")?;
-        let heard = heard(alloc, &mut log, sent, &[], &[call], &[])?;
+        let heard = listen(alloc, &mut log, sent, &[], &[call], &[])?;
         match heard.end {
             SessionEnd::ReadFault => reads += 1,
             SessionEnd::WriteFault => writes += 1,

@@ -12,4 +12,4 @@ mod large;
 mod life;
 mod talking;
 
-pub use talking::{Heard, cut_after, empty_log, get, heard, is_text, post, talk, with_body};
+pub use talking::{Heard, cut_after, empty_log, get, is_text, listen, post, talk, with_body};

@@ -52,7 +52,7 @@ pub fn post(alloc: Global, out: &mut Vec<u8>, body: &Bytes) -> Result<(), Fail> 
 }
 
 /// What is heard of a log by a peer who sends these bytes; the link and the clock fail at these calls.
-pub fn heard(
+pub fn listen(
     alloc: Global,
     log: &mut Registrar<MemDisk>,
     sent: Vec<u8>,
@@ -79,7 +79,7 @@ pub fn talk(
     sent: Vec<u8>,
     moments: &[u64],
 ) -> Result<Heard, Fail> {
-    heard(alloc, log, sent, moments, &[], &[])
+    listen(alloc, log, sent, moments, &[], &[])
 }
 
 /// The session ended so, and what was heard has this SHA-256.
