@@ -1,6 +1,10 @@
 // Heads that are refused, requests that are cut, and too many of them.
-use crate::talking::{cut_after, empty_log, get, is_text, talk};
+use crate::talking::{empty_log, get, gets, hears, listen};
+use registrar::Registrar;
 use scitt_answers::SessionEnd;
+use scitt_disk::MemDisk;
+use std::alloc::Global;
+use std::process::Abort;
 use std::test::Fail;
 use test_cast::new_cast;
 
@@ -23,84 +27,112 @@ static HEADS: [(&str, &str); 4] = [
     ),
 ];
 
+// A log with no entries.
+fn empty(alloc: Global) -> Result<Registrar<MemDisk>, Fail> {
+    let cast = new_cast(alloc)?;
+    empty_log(alloc, &cast, 100, &[])
+}
+
+// This head is refused so, and the request behind it isn't answered.
+fn is_refused(
+    rt: &impl Abort,
+    alloc: Global,
+    log: &mut Registrar<MemDisk>,
+    head: &[u8],
+    wanted: &str,
+) -> Result<(), Fail> {
+    let mut sent = Vec::from_slice(alloc, head)?;
+    get(&mut sent, "/policy")?;
+    hears(rt, alloc, log, sent, &[], SessionEnd::HeadRefused, wanted)
+}
+
 #[test]
 fn a_refused_head_ends_the_connection(rt: HostRuntime) -> Result<(), Fail> {
     let alloc = rt.alloc();
-    let cast = new_cast(alloc)?;
-    let mut log = empty_log(alloc, &cast, 100, &[])?;
+    let mut log = empty(alloc)?;
     for (head, wanted) in HEADS {
-        let mut sent = Vec::from_slice(alloc, head.as_bytes())?;
-        get(&mut sent, "/policy")?;
-        let heard = talk(alloc, &mut log, sent, &[])?;
-        is_text(&rt, alloc, &heard, SessionEnd::HeadRefused, wanted)?;
+        is_refused(&rt, alloc, &mut log, head.as_bytes(), wanted)?;
     }
+    Ok(())
+}
+
+// A field of 8,192 bytes.
+fn long(alloc: Global) -> Result<Vec<u8>, Fail> {
     let mut sent = Vec::from_slice(alloc, b"GET /policy HTTP/1.1\r\nX: ")?;
     for _ in 0..8192 {
         sent.push(b'x')?;
     }
-    let heard = talk(alloc, &mut log, sent, &[])?;
-    is_text(
+    Ok(sent)
+}
+
+#[test]
+fn a_long_head_is_refused(rt: HostRuntime) -> Result<(), Fail> {
+    let alloc = rt.alloc();
+    let mut log = empty(alloc)?;
+    let sent = long(alloc)?;
+    is_refused(
         &rt,
         alloc,
-        &heard,
-        SessionEnd::HeadRefused,
+        &mut log,
+        &sent,
         "3a335b39c797c56e400dbb60d8abe7f8741b6341748c07eafcb01e4b24aad311",
     )
+}
+
+// More requests than a connection may have.
+fn many(alloc: Global) -> Result<Vec<u8>, Fail> {
+    let mut sent = Vec::new(alloc);
+    for _ in 0..1001 {
+        get(&mut sent, "/entries/0")?;
+    }
+    Ok(sent)
 }
 
 #[test]
 fn a_thousand_requests_are_answered(rt: HostRuntime) -> Result<(), Fail> {
     let alloc = rt.alloc();
-    let cast = new_cast(alloc)?;
-    let mut log = empty_log(alloc, &cast, 100, &[])?;
-    let mut sent = Vec::new(alloc);
-    for _ in 0..1001 {
-        get(&mut sent, "/entries/0")?;
-    }
-    let heard = talk(alloc, &mut log, sent, &[])?;
-    is_text(
+    let mut log = empty(alloc)?;
+    let sent = many(alloc)?;
+    hears(
         &rt,
         alloc,
-        &heard,
+        &mut log,
+        sent,
+        &[],
         SessionEnd::TurnsSpent,
         "41403298419f6caa0a7f9fb0cecb1c4d0d85cac0e2fcef4023380776cc74cd6f",
     )
+}
+
+// How a session ends, and how many bytes are heard, where only so many bytes come.
+fn ends_after(
+    alloc: Global,
+    log: &mut Registrar<MemDisk>,
+    sent: &[u8],
+    count: usize,
+) -> Result<(SessionEnd, usize), Fail> {
+    let front = sent.get(..count).ok_or("fewer bytes")?;
+    let front = Vec::from_slice(alloc, front)?;
+    let heard = listen(alloc, log, front, &[], &[], &[])?;
+    Ok((heard.end, heard.text.len()))
 }
 
 // Two requests, of which only the first bytes come: whole requests are answered as they are in all the bytes.
 #[test]
 fn requests_are_cut_at_each_byte(rt: HostRuntime) -> Result<(), Fail> {
     let alloc = rt.alloc();
-    let cast = new_cast(alloc)?;
-    let mut log = empty_log(alloc, &cast, 100, &[])?;
-    let mut sent = Vec::new(alloc);
-    get(&mut sent, "/entries/0")?;
+    let mut log = empty(alloc)?;
+    let mut sent = gets(alloc, &["/entries/0"])?;
     let one = sent.len();
     sent.extend_from_slice(b"PUT /policy HTTP/1.1\r\nContent-Length: 5\r\n\r\nhello")?;
-    let copy = Vec::from_slice(alloc, &sent)?;
-    let whole = talk(alloc, &mut log, copy, &[])?;
-    let copy = cut_after(alloc, &sent, one)?;
-    let first = talk(alloc, &mut log, copy, &[])?;
-    assert!(rt; whole.end == SessionEnd::Ended);
-    assert!(rt; first.end == SessionEnd::Ended);
-    assert!(rt; first.text.len() < whole.text.len());
-    assert!(rt; whole.text.starts_with(first.text.as_slice()));
+    let (end, first) = ends_after(alloc, &mut log, &sent, one)?;
+    assert!(rt; end == SessionEnd::Ended && first > 0);
     for count in 0..sent.len() {
-        let copy = cut_after(alloc, &sent, count)?;
-        let heard = talk(alloc, &mut log, copy, &[])?;
+        let (end, heard) = ends_after(alloc, &mut log, &sent, count)?;
         let between = count == 0 || count == one;
-        assert!(rt;
-            heard.end
-                == if between {
-                    SessionEnd::Ended
-                } else {
-                    SessionEnd::CutShort
-                }
-        );
-        assert_eq!(rt;
-            heard.text.len(),
-            if count < one { 0 } else { first.text.len() }
-        );
+        assert!(rt; between == (end == SessionEnd::Ended));
+        assert!(rt; between || end == SessionEnd::CutShort);
+        assert_eq!(rt; heard, if count < one { 0 } else { first });
     }
     Ok(())
 }

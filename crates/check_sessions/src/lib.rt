@@ -7,9 +7,7 @@ mod faults;
 #[cfg(test)]
 mod heads;
 #[cfg(test)]
-mod large;
-#[cfg(test)]
 mod life;
 mod talking;
 
-pub use talking::{Heard, cut_after, empty_log, get, is_text, listen, post, talk, with_body};
+pub use talking::{Heard, empty_log, get, gets, hears, listen, post, posts, with_body};

@@ -25,10 +25,11 @@ pub fn empty_log(
     max_entries: u32,
     fails: &[u32],
 ) -> Result<Registrar<MemDisk>, Fail> {
-    begun(alloc, fresh(alloc, fails)?, cast, max_entries, 4)
+    let disk = fresh(alloc, fails)?;
+    begun(alloc, disk, cast, max_entries, 4)
 }
 
-/// A GET of this target.
+/// A GET of this target, at the end of what is sent.
 pub fn get(out: &mut Vec<u8>, target: &str) -> Result<(), Fail> {
     out.extend_from_slice(b"GET ")?;
     out.extend_from_slice(target.as_bytes())?;
@@ -36,7 +37,16 @@ pub fn get(out: &mut Vec<u8>, target: &str) -> Result<(), Fail> {
     Ok(())
 }
 
-/// A request line and these fields, with a body and its length.
+/// GETs of these targets.
+pub fn gets(alloc: Global, targets: &[&str]) -> Result<Vec<u8>, Fail> {
+    let mut out = Vec::new(alloc);
+    for target in targets {
+        get(&mut out, target)?;
+    }
+    Ok(out)
+}
+
+/// A request line and these fields, with a body and its length, at the end of what is sent.
 pub fn with_body(alloc: Global, out: &mut Vec<u8>, front: &str, body: &[u8]) -> Result<(), Fail> {
     out.extend_from_slice(front.as_bytes())?;
     let length = format!(in alloc; "Content-Length: {}\r\n\r\n", body.len())?;
@@ -45,10 +55,19 @@ pub fn with_body(alloc: Global, out: &mut Vec<u8>, front: &str, body: &[u8]) -> 
     Ok(())
 }
 
-/// A POST of a statement.
+/// A POST of a statement, at the end of what is sent.
 pub fn post(alloc: Global, out: &mut Vec<u8>, body: &Bytes) -> Result<(), Fail> {
     let front = "POST /entries HTTP/1.1\r\ncontent-type: Application/COSE; charset=x\r\n";
     with_body(alloc, out, front, body.as_slice())
+}
+
+/// POSTs of these statements.
+pub fn posts(alloc: Global, bodies: &[&Bytes]) -> Result<Vec<u8>, Fail> {
+    let mut out = Vec::new(alloc);
+    for body in bodies {
+        post(alloc, &mut out, body)?;
+    }
+    Ok(out)
 }
 
 /// What is heard of a log by a peer who sends these bytes; the link and the clock fail at these calls.
@@ -60,9 +79,11 @@ pub fn listen(
     link_fails: &[u32],
     clock_fails: &[u32],
 ) -> Result<Heard, Fail> {
-    let mut link = MemLink::new(alloc, sent, Vec::from_slice(alloc, link_fails)?);
+    let fails = Vec::from_slice(alloc, link_fails)?;
+    let mut link = MemLink::new(alloc, sent, fails);
     let moments = Vec::from_slice(alloc, moments)?;
-    let mut clock = MemClock::new(moments, Vec::from_slice(alloc, clock_fails)?);
+    let fails = Vec::from_slice(alloc, clock_fails)?;
+    let mut clock = MemClock::new(moments, fails);
     let end = serve_local(alloc, log, &mut link, &mut clock);
     Ok(Heard {
         link_faults: link.faults(),
@@ -72,33 +93,20 @@ pub fn listen(
     })
 }
 
-/// The same where nothing fails.
-pub fn talk(
+/// Where nothing fails the session ends so, and what is heard has this SHA-256.
+pub fn hears(
+    rt: &impl Abort,
     alloc: Global,
     log: &mut Registrar<MemDisk>,
     sent: Vec<u8>,
     moments: &[u64],
-) -> Result<Heard, Fail> {
-    listen(alloc, log, sent, moments, &[], &[])
-}
-
-/// The session ended so, and what was heard has this SHA-256.
-pub fn is_text(
-    rt: &impl Abort,
-    alloc: Global,
-    heard: &Heard,
     end: SessionEnd,
     wanted: &str,
 ) -> Result<(), Fail> {
-    let hash = digest(alloc, &heard.text)?;
-    assert_eq!(rt; hash.as_str(), wanted);
+    let heard = listen(alloc, log, sent, moments, &[], &[])?;
     assert!(rt; heard.end == end);
     assert_eq!(rt; heard.link_faults, 0);
+    let hash = digest(alloc, &heard.text)?;
+    assert_eq!(rt; hash.as_str(), wanted);
     Ok(())
-}
-
-/// The first bytes, so many of them.
-pub fn cut_after(alloc: Global, bytes: &[u8], count: usize) -> Result<Vec<u8>, Fail> {
-    let front = bytes.get(..count).ok_or("fewer bytes")?;
-    Ok(Vec::from_slice(alloc, front)?)
 }
