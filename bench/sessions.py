@@ -1,4 +1,4 @@
-"""The text of a session with the service, made by the rules of docs/profile alone: used for the hashes of check_sessions."""
+"""The text of a session with the service, made by the rules of docs/profile alone: used by scripts.py for the hashes of check_script."""
 from registrar import Tree, Log, H, enc, st
 
 TYPES = {'cose': 'application/cose', 'cbor': 'application/cbor', 'problem': 'application/vnd.scitt-problem+cbor'}
