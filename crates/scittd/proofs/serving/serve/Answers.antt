@@ -1,0 +1,8 @@
+use denote.Param.Send.{sendable}
+use Rattle.std.proofs.Crossing.{crosses}
+use Rattle.scitt_service.proofs.Sent.{service_shared}
+
+for_each_mut-requires-sync-F g c =
+    let system = c.type_bounds.sync-R in
+    let service = service_shared _ g.D.Disk c.type_bounds.send-D in
+    search (crosses, sendable) depth 60 fits 20000
