@@ -5,6 +5,4 @@
 #[cfg(test)]
 mod notes;
 #[cfg(test)]
-mod service;
-#[cfg(test)]
 mod turns;
