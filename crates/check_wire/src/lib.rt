@@ -1,7 +1,9 @@
-//! Tests of the wire: the requests of a link's bytes, and the links, clocks and random bytes of
+//! Tests of the wire: the requests of a link's bytes and an answer's bytes, and the links, clocks and random bytes of
 //! `scitt_io`.
 #![tactic(auto)]
 
+#[cfg(test)]
+mod answers;
 #[cfg(test)]
 mod cuts;
 #[cfg(test)]

@@ -1,5 +1,5 @@
 //! The limits of a head and of a body.
-use crate::runs::told_of;
+use crate::runs::{Cut, told, told_of};
 use std::alloc::{AllocError, Global};
 use std::test::Fail;
 
@@ -80,5 +80,32 @@ fn takes_32_fields(rt: HostRuntime) -> Result<(), Fail> {
             "of {count} fields"
         );
     }
+    Ok(())
+}
+
+// A body of 4,194,304 bytes that comes byte by byte, with another request behind it. The work is linear in its length: one
+// that copied or cleared a buffer at each byte would take hours.
+#[test]
+fn takes_the_longest_body_byte_by_byte(rt: HostRuntime) -> Result<(), Fail> {
+    let mut bytes = Vec::new(rt.alloc());
+    bytes.extend_from_slice(b"POST /entries HTTP/1.1\r\nContent-Length: 4194304\r\n\r\n")?;
+    let front = bytes.len();
+    bytes.resize(front + 4_194_304, b'b')?;
+    bytes.extend_from_slice(b"GET /policy HTTP/1.1\r\n\r\n")?;
+    let mut link = Cut {
+        bytes: &bytes,
+        at: 0,
+        place: 0,
+        most: 1,
+        fails: false,
+        faults: 0,
+    };
+    let text = told(rt.alloc(), &mut link)?;
+    let behind = text
+        .as_str()
+        .strip_prefix("Post /entries other stay ")
+        .ok_or("no first request")?;
+    assert_eq!(rt; behind.len(), 8_388_608 + 31);
+    assert!(rt; behind.ends_with("62\nGet /policy other stay \nEnded\n"));
     Ok(())
 }

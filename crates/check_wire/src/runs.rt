@@ -1,6 +1,8 @@
-//! What a wire answers, as text.
+//! What a wire answers, as text, and links that give their bytes in pieces.
+ghost use Rattle.std.specs.Prelude.{None};
+
 use http_wire::{Next, Wire};
-use scitt_io::{Link, MemLink};
+use scitt_io::{Link, MemLink, ReadFault, Sink, Source, WriteFault};
 use std::alloc::{AllocError, Global};
 
 /// A line for each request, and one for the answer behind them; the wire is asked once more, and must answer the same.
@@ -48,4 +50,80 @@ fn line(alloc: Global, next: &Next) -> Result<String, AllocError> {
         Next::ReadFault => format!(in alloc; "ReadFault\n"),
         Next::OutOfMemory => format!(in alloc; "OutOfMemory\n"),
     }
+}
+
+/// A link whose reads stop at a place, where it may fail once, and give at most so many bytes.
+#[derive(Drop)]
+pub struct Cut<'a> {
+    pub bytes: &'a [u8],
+    pub at: usize,
+    pub place: usize,
+    pub most: usize,
+    pub fails: bool,
+    pub faults: u64,
+}
+
+impl Source for Cut<'_> {
+    ghost left = { λ _. None };
+
+    ghost faults = { λ c. c.faults };
+
+    ghost read_keeps = { λ _ _. Unit {0} };
+
+    ghost read_keeps_self = { λ _. tt };
+
+    ghost read_keeps_then = { λ _ _ _ _ _. tt };
+
+    fn read(&mut self, buf: &mut [u8]) -> Result<usize, ReadFault> {
+        if self.fails && self.at == self.place {
+            self.fails = false;
+            self.faults = self.faults.saturating_add(1);
+            return Err(ReadFault);
+        }
+        let end = if self.at < self.place {
+            self.place.min(self.bytes.len())
+        } else {
+            self.bytes.len()
+        };
+        let count = end.saturating_sub(self.at).min(self.most).min(buf.len());
+        let at = self.at;
+        for i in 0..count {
+            if let Some(byte) = self.bytes.get(at.saturating_add(i)) {
+                buf[i] = *byte;
+            }
+        }
+        self.at = at.saturating_add(count);
+        Ok(count)
+    }
+}
+
+impl Sink for Cut<'_> {
+    ghost taken = { λ _. None };
+
+    ghost refused = { λ _. 0 };
+
+    ghost write_keeps = { λ a b. b.faults ≡ a.faults };
+
+    ghost use Rattle.std.specs.Prelude.{◌≡◌};
+    ghost use Rattle.std.proofs.Common.{refl, ◌∙◌};
+
+    ghost write_keeps_self = { λ _. refl };
+
+    ghost write_keeps_then = { λ _ _ _ p q. q ∙ p };
+
+    fn write(&mut self, bytes: &[u8]) -> Result<usize, WriteFault> {
+        Ok(bytes.len())
+    }
+}
+
+impl Link for Cut<'_> {
+    ghost use Rattle.std.proofs.Common.{refl};
+
+    ghost taken_kept = { λ _ _ _. refl };
+
+    ghost refused_kept = { λ _ _ _. refl };
+
+    ghost left_kept = { λ _ _ _. refl };
+
+    ghost faults_kept = { λ _ _ p. p };
 }
