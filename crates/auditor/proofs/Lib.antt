@@ -2,3 +2,4 @@ pub mod Records
 pub mod Bad
 pub mod Saying
 pub mod One
+pub mod Beside

@@ -1,4 +1,5 @@
 use Rattle.auditor.proofs.One.{Journal, one_report, some_report}
+use Rattle.auditor.proofs.Beside.{one_since, some_since}
 use Rattle.auditor.proofs.laws.report_laws.Goals as goal
 
 pub returns : goal.returns
@@ -14,4 +15,4 @@ returns c =
       less = c.log_laws.ensures.one_less;
       fronts = c.log_laws.ensures.fronts;
     } in
-    record { some = some_report j; one = one_report j }
+    record { some = some_report j; one = one_report j; some_since = some_since j; one_since = one_since j }
