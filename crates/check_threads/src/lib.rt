@@ -5,4 +5,6 @@
 #[cfg(test)]
 mod notes;
 #[cfg(test)]
+mod service;
+#[cfg(test)]
 mod turns;
