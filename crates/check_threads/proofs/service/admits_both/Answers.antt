@@ -8,7 +8,7 @@ use Rattle.check_threads.proofs.service.admits_both.Goals as goal
 
 pub join-first-requires-send-F : goal.join-first-requires-send-F
 join-first-requires-send-F g c κs within =
-  let system = c.type_bounds.sync-typeof-rt in
-  let memory : IsSend disk.the_row = search (crosses, sendable) depth 60 fits 20000 in
-  let service = service_shared disk.the_row ghosts memory in
-  search (seat.the_send, crosses, sendable) depth 60 fits 20000
+    let system = c.type_bounds.sync-typeof-rt in
+    let memory : IsSend disk.the_row = search (crosses, sendable) depth 60 fits 20000 in
+    let service = service_shared disk.the_row ghosts memory in
+    search (seat.the_send, crosses, sendable) depth 60 fits 20000
