@@ -1,7 +1,8 @@
-"""Scripts of replays and what is heard of them, made by the rules of docs/profile alone: used for the values of check_script.
+"""Scripts of replays and what is heard of them, made by the rules of docs/profile alone: used for the values of check_script and of
+check_first_path, and for the rows of the built program.
 
 It prints the SHA-256 of a script of a log's life and of what is heard of it, and then a table for tests: the bytes of scripts in
-hexadecimal, and what comes of each.
+hexadecimal, and what comes of each. With the word `tool` it prints what the tool is to say of scripts: status and text.
 """
 import sys
 sys.dont_write_bytecode = True
@@ -41,8 +42,6 @@ log.add(T + 1, 100, first)
 heard += answer(201, 'cose', log.receipt(1), 2, location=1) + answer(200, 'cose', log.cons(1), 2)
 heard += problem('ClockFault', 2) + answer(200, 'cose', first, 2) + answer(200, 'cbor', policy, 2)
 whole = enc(script(session=sent))
-print('// life: script %d %s' % (len(whole), H(whole).hex()))
-print('// life: heard %d %s' % (len(heard), H(heard).hex()))
 
 rows = []
 
@@ -123,8 +122,52 @@ broken(most=0)
 broken(most=65537)
 broken(block=0)
 broken(block=65)
-print('// Scripts in hexadecimal and what comes of each, by bench/scripts.py: how the session ends and the SHA-256 of what is heard, or why there is\n// none.\n')
-print('pub const SCRIPTS: &[&str] = &[')
-for bytes_, what in rows:
-    print('    "%s|%s",' % (bytes_.hex(), what))
-print('];')
+
+
+def table():
+    print('// life: script %d %s' % (len(whole), H(whole).hex()))
+    print('// life: heard %d %s' % (len(heard), H(heard).hex()))
+    print('// Scripts in hexadecimal and what comes of each, by bench/scripts.py: how the session ends and the SHA-256 of what is heard, or why there is\n// none.\n')
+    print('pub const SCRIPTS: &[&str] = &[')
+    for bytes_, what in rows:
+        print('    "%s|%s",' % (bytes_.hex(), what))
+    print('];')
+
+
+def octal(data):
+    return ''.join('\\%03o' % b for b in data)
+
+
+def tool():
+    refused = post(b'\1')
+    told = get('/policy') + refused + get('/entries/7')
+    text = boot + problem('BadStatement', 0, 0, 3, 0) + none
+    ended = [(script(), b''), (script(session=told), text)]
+    cut = [(script(session=told + b'GET /pol'), text), (script(session=told + b'GET /policy\r\n\r\n' + told), text + problem('BadHead', 0, close=True))]
+    none_at_all = [enc(script()[:9]), enc(script()) + b'\0', enc(script(block=65)), b'']
+    print('// By bench/scripts.py, a program of its own in Python with its own CBOR and LMS.')
+    for name, pairs in [('ENDED', ended), ('CUT', cut)]:
+        print('pub const %s: &[(&str, &str)] = &[' % name)
+        for value, said in pairs:
+            print('    ("%s", "%s"),' % (enc(value).hex(), said.hex()))
+        print('];')
+    print('pub const NO_SCRIPTS: &[&str] = &[')
+    for bytes_ in none_at_all:
+        print('    "%s",' % bytes_.hex())
+    print('];')
+    one = get('/entries/7')
+    many = enc(script(session=one * 1001))
+    print('// A thousand answers and one request more: the script in front of the session, the length of all and its SHA-256.')
+    print('pub const FRONT: &str = "%s";' % many[:-len(one) * 1001].hex())
+    print('// script %d %s' % (len(many), H(many).hex()))
+    print('// heard %d %s' % (len(none * 999) + len(problem('NoEntry', 0, 0, 7, close=True)), H(none * 999 + problem('NoEntry', 0, 0, 7, close=True)).hex()))
+    print('# rows')
+    for name, (value, said) in [('ended', ended[1]), ('cut', cut[0])]:
+        print("printf '%s' >%s.cbor" % (octal(enc(value)), name))
+        print("printf '%s' >want" % octal(said))
+
+
+if sys.argv[1:] == ['tool']:
+    tool()
+else:
+    table()

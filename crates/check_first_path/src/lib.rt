@@ -12,9 +12,13 @@ mod outside;
 #[cfg(test)]
 mod policies;
 #[cfg(test)]
+mod replaying;
+#[cfg(test)]
 mod rows;
 #[cfg(test)]
 mod runs;
+#[cfg(test)]
+mod scripts;
 #[cfg(test)]
 mod shows;
 #[cfg(test)]

@@ -1,5 +1,5 @@
 -- Words and files call for one answer: each command's judgement is determined by its file's bytes.
-use Rattle.std.proofs.Common.{◌≡◌, ℕ, ◌+◌, min, ◌++◌, List, [], ◌∷◌, length, map, Bool, Option, Some, None, Result, Ok, Err, inl, inr, refl, sym, ap, subst, ◌∙◌, arith}
+use Rattle.std.proofs.Common.{◌≡◌, ℕ, ◌+◌, min, ◌++◌, List, [], ◌∷◌, length, map, Bool, true, false, Option, Some, None, Result, Ok, Err, inl, inr, refl, sym, ap, subst, ◌∙◌, arith}
 use Rattle.std.proofs.lemmas.Bool.{cases_lt}
 use Rattle.std.specs.Prelude.{codes}
 use Rattle.merkle_tree.specs.Mth.{mth}
@@ -15,11 +15,16 @@ use Rattle.statement.specs.declared.statement_type.Statement.{Statement}
 use Rattle.statement.specs.declared.stops.ParseStop.{ParseStop}
 use Rattle.statement.specs.OneAnswer.{OneAnswer}
 use Rattle.scitt_tool.specs.Answer.{Answer, done, refused}
-use Rattle.scitt_tool.specs.Command.{Command, Root, Show, Policy, Audit, Keygen, Sign, Attach, Verify, Consistent, command_of}
+use Rattle.scitt_tool.specs.Command.{Command, Root, Show, Policy, Audit, Replay, Keygen, Sign, Attach, Verify, Consistent, command_of}
 use Rattle.scitt_tool.specs.Reads.{ByFiles}
 use Rattle.scitt_tool.specs.Outcome.{Outcome, Keyed, plain, IsKey}
 use Rattle.scitt_tool.specs.Attach.{AttachOf}
 use Rattle.scitt_tool.specs.Audit.{report_answer, AuditOf}
+use Rattle.scitt_script.specs.declared.script.Script.{Script}
+use Rattle.scitt_script.specs.Scripts.{ScriptOf, OneScript}
+use Rattle.scitt_script.specs.Replays.{header_in}
+use Rattle.log_replay.specs.WellMade.{is_within_limits}
+use Rattle.scitt_tool.specs.Replay.{PlayedOf, OneHeard, OnePlay}
 use Rattle.auditor.specs.Laws.{OneReport}
 use Rattle.scitt_tool.specs.Verify.{verdict_answer, VerifyOf}
 use Rattle.scitt_tool.specs.Consistent.{result_answer, ConsistentOf}
@@ -56,7 +61,7 @@ use Rattle.policy_rules.specs.declared.documents.PolicyStop.{PolicyStop}
 use Rattle.policy_rules.specs.declared.documents.PolicyStop.TheVariants.{Cbor, BadPolicy}
 use Rattle.policy_rules.specs.OneAnswer.{OneAnswer as OneDocument}
 use Rattle.scitt_tool.specs.Policy.{policy_lines, PolicyTextOf}
-use Rattle.scitt_tool.specs.ToolText.{first, second, Plain, Judged, CommandText, OneText}
+use Rattle.scitt_tool.specs.ToolText.{first, second, Plain, Judged, CommandText, PlaysNothing, OneText}
 
 abbrev One : (Answer → Type 0) → Type 0
 One P = (a b : Answer) → P a → P b → a ≡ b
@@ -199,6 +204,24 @@ one_consistent trust bytes receipt size root a b (inr p) (inr q) =
     let accepts = subst (λ (t : Trust). AcceptsConsistency t receipt size root p.result) same p.accepts in
     p.is ∙ ap result_answer (accepts ∙ sym q.accepts) ∙ sym q.is
 
+-- ---- replay
+
+not_both : (b : Bool) → b ≡ true → b ≡ false → ⊥
+not_both b e f = cc
+
+one_played : (bytes : List ℕ) (script : Script) (a b : Answer) → ScriptOf bytes script → PlayedOf script a → PlayedOf script b → OneHeard bytes a b
+one_played bytes script a b spelled (inl p) (inl q) = inl (p.1 ∙ sym q.1)
+one_played bytes script a b spelled (inl p) (inr q) = absurd (not_both (is_within_limits (header_in script)) q.replayed.limits p.0)
+one_played bytes script a b spelled (inr p) (inl q) = absurd (not_both (is_within_limits (header_in script)) p.replayed.limits q.0)
+one_played bytes script a b spelled (inr p) (inr q) = inr (record { script = script; spelled = spelled; one = p; other = q })
+
+pub one_play : OneScript → OnePlay
+one_play one bytes a b (inl p) (inl q) = inl (p.is ∙ sym q.is)
+one_play one bytes a b (inl p) (inr q) = absurd (p.none q.script q.spelled)
+one_play one bytes a b (inr p) (inl q) = absurd (q.none p.script p.spelled)
+one_play one bytes a b (inr p) (inr q) =
+    one_played bytes p.script a b p.spelled p.played (subst (λ (s : Script). PlayedOf s b) (one bytes q.script p.script q.spelled p.spelled) q.played)
+
 -- ---- attach
 
 same_message : OneMessage → (bytes : List ℕ) (v w : Sign1) → Sign1Of bytes v → Sign1Of bytes w → v ≡ w
@@ -332,20 +355,21 @@ one_files J each (Some bytes ∷ contents) a b (inr (long, p)) (inl (small, q)) 
 one_files J each (Some bytes ∷ contents) a b (inr (long, p)) (inr (large, q)) = p ∙ sym q
 
 module _ (never : NeverBoth) (one_item : OneItem) (one_fault : OneWholeFault) (tags : TagStandsFirst) (one : OneAnswer) (document : OneDocument) (message : OneMessage) (spelling : OneStrictSpelling) (report : OneReport) (trust : OneTrust) (verdict : OneVerdict) (no_log : NoLogHasNoRecords) (short : ShortHasNoRecords) (short_at : ShortIsUnique) (records : RecordsAreUnique) where
-  one_judged : (key random : List ℕ) (command : Command) (read : List (List ℕ)) → OneOutcome (Judged (Unit {0}) key random command read)
-  one_judged key random (Root file) read = one_plain (RootOf (first read)) (one_root never one_item one_fault (first read))
-  one_judged key random (Show file) read = one_plain (ShowOf (first read)) (one_show tags one (first read))
-  one_judged key random (Policy file) read = one_plain (PolicyTextOf (first read)) (one_policy document (first read))
-  one_judged key random (Audit file) read = one_plain (AuditOf (first read)) (one_audit report (first read))
-  one_judged key random (Verify _ _) read = one_plain (VerifyOf (first read) (second read)) (one_verify trust verdict (first read) (second read))
-  one_judged key random (Consistent _ _ size root) read = one_plain (ConsistentOf (first read) (second read) size root) (one_consistent trust (first read) (second read) size root)
-  one_judged key random (Keygen levels) read = one_keygen levels key random
-  one_judged key random (Sign claims _) read = one_sign no_log short short_at records spelling claims key (first read)
-  one_judged key random (Attach statement receipt) read = one_plain (AttachOf (first read) (second read)) (one_attach one message spelling (first read) (second read))
+  one_judged : (key random : List ℕ) (command : Command) → PlaysNothing (Some command) → (read : List (List ℕ)) → OneOutcome (Judged (Unit {0}) key random command read)
+  one_judged key random (Root file) other read = one_plain (RootOf (first read)) (one_root never one_item one_fault (first read))
+  one_judged key random (Show file) other read = one_plain (ShowOf (first read)) (one_show tags one (first read))
+  one_judged key random (Policy file) other read = one_plain (PolicyTextOf (first read)) (one_policy document (first read))
+  one_judged key random (Audit file) other read = one_plain (AuditOf (first read)) (one_audit report (first read))
+  one_judged key random (Verify _ _) other read = one_plain (VerifyOf (first read) (second read)) (one_verify trust verdict (first read) (second read))
+  one_judged key random (Consistent _ _ size root) other read = one_plain (ConsistentOf (first read) (second read) size root) (one_consistent trust (first read) (second read) size root)
+  one_judged key random (Replay file) other read = absurd other
+  one_judged key random (Keygen levels) other read = one_keygen levels key random
+  one_judged key random (Sign claims _) other read = one_sign no_log short short_at records spelling claims key (first read)
+  one_judged key random (Attach statement receipt) other read = one_plain (AttachOf (first read) (second read)) (one_attach one message spelling (first read) (second read))
 
-  one_command : (key random : List ℕ) (o : Option Command) (contents : List (Option (List ℕ))) → OneOutcome (CommandText (Unit {0}) key random o contents)
-  one_command key random None contents a b p q = p ∙ sym q
-  one_command key random (Some command) contents a b p q = one_files (Judged (Unit {0}) key random command) (one_judged key random command) contents a b p q
+  one_command : (key random : List ℕ) (o : Option Command) → PlaysNothing o → (contents : List (Option (List ℕ))) → OneOutcome (CommandText (Unit {0}) key random o contents)
+  one_command key random None other contents a b p q = p ∙ sym q
+  one_command key random (Some command) other contents a b p q = one_files (Judged (Unit {0}) key random command) (one_judged key random command other) contents a b p q
 
   pub one_text : OneText
-  one_text key random words contents a b p q = one_command key random (command_of words) contents a b p q
+  one_text key random words contents a b other p q = one_command key random (command_of words) other contents a b p q

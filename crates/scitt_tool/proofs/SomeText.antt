@@ -16,7 +16,7 @@ use Rattle.statement.specs.declared.statement_type.Statement.{Statement}
 use Rattle.statement.specs.declared.stops.ParseStop.{ParseStop}
 use Rattle.statement.specs.OneAnswer.{AnswerOf, SomeAnswer}
 use Rattle.scitt_tool.specs.Answer.{Answer, done, refused, words_refused, unread, too_long}
-use Rattle.scitt_tool.specs.Command.{Command, Root, Show, Policy, Audit, Keygen, Sign, Attach, Verify, Consistent, command_of}
+use Rattle.scitt_tool.specs.Command.{Command, Root, Show, Policy, Audit, Replay, Keygen, Sign, Attach, Verify, Consistent, command_of}
 use Rattle.scitt_tool.specs.Reads.{limit, ByFiles}
 use Rattle.scitt_tool.specs.FaultText.{fault_text}
 use Rattle.cose_sign1.specs.Tbs.{byte_item}
@@ -40,7 +40,7 @@ use Rattle.relying_party.specs.OneAnswer.{AnswerOf as TrustAnswer, SomeAnswer as
 use Rattle.scitt_tool.specs.Outcome.{Outcome, Kept, Keyed, plain}
 use Rattle.scitt_tool.specs.Keygen.{KeygenOf, key_bytes, key_lines, public_of, head_from}
 use Rattle.lms_tree.specs.declared.types.Level.{Level}
-use Rattle.scitt_tool.specs.ToolText.{first, second, Plain, Judged, CommandText, AllBytes, MakesNoStatement, NoneIsMade, SomeText}
+use Rattle.scitt_tool.specs.ToolText.{first, second, Plain, Judged, CommandText, AllBytes, MakesNoStatement, NoneIsMade, PlaysNothing, SomeText}
 
 abbrev Has : (Answer → Type 0) → Type 0
 Has P = (answer : Answer) × P answer
@@ -216,20 +216,21 @@ some_files J each (Some bytes ∷ contents) fits =
     ]
 
 module _ (either : ItemOrFault) (some : SomeAnswer) (document : SomeDocument) (report : SomeReport) (trust : SomeTrust) (verdict : SomeVerdict) where
-  some_judged : (key random : List ℕ) (command : Command) → MakesNoStatement command → (read : List (List ℕ)) → EachBytes read → HasOutcome (Judged (Unit {0}) key random command read)
-  some_judged key random (Root file) other read each = some_plain (RootOf (first read)) (some_root either (first read) (first_bytes read each))
-  some_judged key random (Show file) other read each = let found = some (first read) (first_bytes read each) in some_plain (ShowOf (first read)) (shown (first read) found.0 found.1)
-  some_judged key random (Policy file) other read each = let found = document (first read) (first_bytes read each) in some_plain (PolicyTextOf (first read)) (document_text (first read) found.0 found.1)
-  some_judged key random (Audit file) other read each = some_plain (AuditOf (first read)) (some_audit report (first read) (first_bytes read each))
-  some_judged key random (Verify _ _) other read each = let found = trust (first read) (first_bytes read each) in some_plain (VerifyOf (first read) (second read)) (some_verdict verdict (first read) (second read) (second_bytes read each) found.0 found.1)
-  some_judged key random (Consistent _ _ size root) other read each = let found = trust (first read) (first_bytes read each) in some_plain (ConsistentOf (first read) (second read) size root) (some_growth (first read) (second read) size root found.0 found.1)
-  some_judged key random (Keygen levels) other read each = some_keygen levels key random
-  some_judged key random (Attach statement receipt) other read each = absurd other
-  some_judged key random (Sign claims file) other read each = absurd other
+  some_judged : (key random : List ℕ) (command : Command) → MakesNoStatement command → PlaysNothing (Some command) → (read : List (List ℕ)) → EachBytes read → HasOutcome (Judged (Unit {0}) key random command read)
+  some_judged key random (Root file) other plays read each = some_plain (RootOf (first read)) (some_root either (first read) (first_bytes read each))
+  some_judged key random (Show file) other plays read each = let found = some (first read) (first_bytes read each) in some_plain (ShowOf (first read)) (shown (first read) found.0 found.1)
+  some_judged key random (Policy file) other plays read each = let found = document (first read) (first_bytes read each) in some_plain (PolicyTextOf (first read)) (document_text (first read) found.0 found.1)
+  some_judged key random (Audit file) other plays read each = some_plain (AuditOf (first read)) (some_audit report (first read) (first_bytes read each))
+  some_judged key random (Verify _ _) other plays read each = let found = trust (first read) (first_bytes read each) in some_plain (VerifyOf (first read) (second read)) (some_verdict verdict (first read) (second read) (second_bytes read each) found.0 found.1)
+  some_judged key random (Consistent _ _ size root) other plays read each = let found = trust (first read) (first_bytes read each) in some_plain (ConsistentOf (first read) (second read) size root) (some_growth (first read) (second read) size root found.0 found.1)
+  some_judged key random (Replay file) other plays read each = absurd plays
+  some_judged key random (Keygen levels) other plays read each = some_keygen levels key random
+  some_judged key random (Attach statement receipt) other plays read each = absurd other
+  some_judged key random (Sign claims file) other plays read each = absurd other
 
-  some_command : (key random : List ℕ) (o : Option Command) → NoneIsMade o → (contents : List (Option (List ℕ))) → AllBytes contents → HasOutcome (CommandText (Unit {0}) key random o contents)
-  some_command key random None other contents fits = (plain words_refused, refl)
-  some_command key random (Some command) other contents fits = some_files (Judged (Unit {0}) key random command) (λ read each. some_judged key random command other read each) contents fits
+  some_command : (key random : List ℕ) (o : Option Command) → NoneIsMade o → PlaysNothing o → (contents : List (Option (List ℕ))) → AllBytes contents → HasOutcome (CommandText (Unit {0}) key random o contents)
+  some_command key random None other plays contents fits = (plain words_refused, refl)
+  some_command key random (Some command) other plays contents fits = some_files (Judged (Unit {0}) key random command) (λ read each. some_judged key random command other plays read each) contents fits
 
   pub some_text : SomeText
-  some_text key random words contents other fits = some_command key random (command_of words) other contents fits
+  some_text key random words contents other plays fits = some_command key random (command_of words) other plays contents fits

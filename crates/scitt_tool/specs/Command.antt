@@ -11,6 +11,7 @@ pub data Command : Type 0 where
   Show : (file : List ℕ) → Command
   Policy : (file : List ℕ) → Command
   Audit : (file : List ℕ) → Command
+  Replay : (file : List ℕ) → Command
   Keygen : (levels : List Level) → Command
   Sign : (claims : Claims) → (file : List ℕ) → Command
   Attach : (statement : List ℕ) → (receipt : List ℕ) → Command
@@ -24,8 +25,9 @@ with_one name a =
     else (if bytes_eq name (codes "show") then Some (Show a)
     else (if bytes_eq name (codes "policy") then Some (Policy a)
     else (if bytes_eq name (codes "audit") then Some (Audit a)
+    else (if bytes_eq name (codes "replay") then Some (Replay a)
     else (if bytes_eq name (codes "keygen") then option_map Keygen (levels_named a)
-    else None))))
+    else None)))))
 
 -- a name and two
 abbrev pub with_two : List ℕ → List ℕ → List ℕ → Option Command
@@ -61,6 +63,7 @@ files_of (Root file) = file ∷ []
 files_of (Show file) = file ∷ []
 files_of (Policy file) = file ∷ []
 files_of (Audit file) = file ∷ []
+files_of (Replay file) = file ∷ []
 files_of (Keygen levels) = []
 files_of (Sign claims file) = file ∷ []
 files_of (Attach statement receipt) = statement ∷ receipt ∷ []

@@ -2,13 +2,14 @@
 use Rattle.std.specs.Prelude.{◌≡◌, ℕ, List, [], ◌∷◌, Option, Some, None}
 use Rattle.cbor_core.specs.Bytes.{IsBytes}
 use Rattle.scitt_tool.specs.Answer.{Answer, words_refused}
-use Rattle.scitt_tool.specs.Command.{Command, Root, Show, Policy, Audit, Keygen, Sign, Attach, Verify, Consistent, command_of}
+use Rattle.scitt_tool.specs.Command.{Command, Root, Show, Policy, Audit, Replay, Keygen, Sign, Attach, Verify, Consistent, command_of}
 use Rattle.scitt_tool.specs.Outcome.{Outcome, Kept, plain}
 use Rattle.scitt_tool.specs.Reads.{ByFiles}
 use Rattle.scitt_tool.specs.Root.{RootOf}
 use Rattle.scitt_tool.specs.Show.{ShowOf}
 use Rattle.scitt_tool.specs.Policy.{PolicyTextOf}
 use Rattle.scitt_tool.specs.Audit.{AuditOf}
+use Rattle.scitt_tool.specs.Replay.{ReplayTextOf}
 use Rattle.scitt_tool.specs.Attach.{AttachOf}
 use Rattle.scitt_tool.specs.Verify.{VerifyOf}
 use Rattle.scitt_tool.specs.Consistent.{ConsistentOf}
@@ -34,6 +35,7 @@ Judged Tells key random (Root file) read = Plain (RootOf (first read))
 Judged Tells key random (Show file) read = Plain (ShowOf (first read))
 Judged Tells key random (Policy file) read = Plain (PolicyTextOf (first read))
 Judged Tells key random (Audit file) read = Plain (AuditOf (first read))
+Judged Tells key random (Replay file) read = Plain (ReplayTextOf (first read))
 Judged Tells key random (Attach statement receipt) read = Plain (AttachOf (first read) (second read))
 Judged Tells key random (Verify trust statement) read = Plain (VerifyOf (first read) (second read))
 Judged Tells key random (Consistent trust receipt size root) read = Plain (ConsistentOf (first read) (second read) size root)
@@ -64,12 +66,18 @@ abbrev pub NoneIsMade : Option Command → Type 0
 NoneIsMade None = Unit {0}
 NoneIsMade (Some command) = MakesNoStatement command
 
--- words, contents of files, a key file and random bytes call for an outcome, where the command is another than `attach` and `sign`
+-- a command is another than `replay`, in whose session a request may be answered that memory is wanting, as the other commands answer it of
+-- the whole run
+abbrev pub PlaysNothing : Option Command → Type 0
+PlaysNothing (Some (Replay file)) = ⊥
+PlaysNothing _ = Unit {0}
+
+-- words, contents of files, a key file and random bytes call for an outcome, where the command is another than `attach`, `sign` and `replay`
 abbrev pub SomeText : Type 0
-SomeText = (key random : List ℕ) (words : List (List ℕ)) (contents : List (Option (List ℕ))) → NoneIsMade (command_of words) → AllBytes contents
+SomeText = (key random : List ℕ) (words : List (List ℕ)) (contents : List (Option (List ℕ))) → NoneIsMade (command_of words) → PlaysNothing (command_of words) → AllBytes contents
     → (outcome : Outcome) × ToolText (Unit {0}) key random words contents outcome
 
--- and for no two
+-- and for no two, where it is another than `replay`
 abbrev pub OneText : Type 0
-OneText = (key random : List ℕ) (words : List (List ℕ)) (contents : List (Option (List ℕ))) (a b : Outcome)
+OneText = (key random : List ℕ) (words : List (List ℕ)) (contents : List (Option (List ℕ))) (a b : Outcome) → PlaysNothing (command_of words)
     → ToolText (Unit {0}) key random words contents a → ToolText (Unit {0}) key random words contents b → a ≡ b

@@ -29,6 +29,10 @@ pub(crate) enum Command<'a> {
     Audit {
         file: &'a str,
     },
+    /// `replay FILE`
+    Replay {
+        file: &'a str,
+    },
     /// `keygen LEVELS`
     Keygen {
         levels: Levels,
@@ -67,6 +71,7 @@ impl Command<'_> {
             | Command::Show { file }
             | Command::Policy { file }
             | Command::Audit { file }
+            | Command::Replay { file }
             | Command::Sign { file, .. } => first(place, file),
             Command::Keygen { .. } => None,
             Command::Attach { statement, receipt } => either(place, statement, receipt),
@@ -103,6 +108,7 @@ fn with_one<'a>(name: &str, word: &'a str) -> Option<Command<'a>>
         "show" => Some(Command::Show { file: word }),
         "policy" => Some(Command::Policy { file: word }),
         "audit" => Some(Command::Audit { file: word }),
+        "replay" => Some(Command::Replay { file: word }),
         "keygen" => {
             let levels = levels_named(word)?;
             Some(Command::Keygen { levels })

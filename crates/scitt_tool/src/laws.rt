@@ -1,3 +1,4 @@
+ghost use Rattle.scitt_tool.specs.Replay.{OnePlay};
 ghost use Rattle.scitt_tool.specs.ToolText.{OneText, SomeText};
 
 use auditor::report_laws;
@@ -6,13 +7,16 @@ use cose_sign1::{messages_have_one_answer, tag_stands_first};
 use policy_rules::documents_have_one_answer;
 use relying_party::{trust_files_have_one_answer, verdicts_are_one};
 use scitt_journal::journal_laws;
+use scitt_script::bytes_are_one_script;
 use statement::statements_have_one_answer;
 
-/// A law: words, files, a key file and random bytes call for at most one status, text and key file afterwards, and where the
-/// command is another than `attach` and `sign`, for one.
+/// A law: words, files, a key file and random bytes call for at most one status, text and key file afterwards, where the command is
+/// another than `replay`, and where it is another than `attach` and `sign` too, for one. What `replay` refuses it always refuses, by one
+/// line; two other texts of it were heard in sessions of one script.
 pub fn words_and_files_have_one_text()
     ensures some { SomeText }
     ensures one { OneText }
+    ensures played { OnePlay }
 {
     whole_bytes_have_one_answer();
     tag_stands_first();
@@ -24,4 +28,5 @@ pub fn words_and_files_have_one_text()
     trust_files_have_one_answer();
     verdicts_are_one();
     journal_laws();
+    bytes_are_one_script();
 }

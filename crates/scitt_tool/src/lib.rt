@@ -19,6 +19,7 @@ mod numbers;
 mod policy;
 mod printed;
 mod random;
+mod replay;
 mod root;
 mod run;
 mod show;

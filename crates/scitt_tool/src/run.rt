@@ -16,6 +16,7 @@ use crate::consistent::consistent;
 use crate::file::read_files;
 use crate::keygen::keygen;
 use crate::policy::policy;
+use crate::replay::replay;
 use crate::root::root;
 use crate::show::show;
 use crate::sign::sign;
@@ -32,8 +33,8 @@ const NO_MEMORY: Status = 5;
 ///
 /// | Status | Where | Text |
 /// |---|---|---|
-/// | 0 | done, and the input read to its end | the command's lines, or a statement's bytes |
-/// | 1 | refused by a written rule | the command's line |
+/// | 0 | done, and the input read to its end | the command's lines, or the bytes of a statement or of a session |
+/// | 1 | refused by a written rule | the command's line, or the bytes of a session that was ended |
 /// | 2 | the words name no command | `words refused` |
 /// | 3 | the folder or the random source refused a call | `read fault` |
 /// | 4 | the sink refused a write | a part of the text |
@@ -186,6 +187,7 @@ fn judge<D: Disk, S: Source>(
         Command::Show { .. } => Ok(show(alloc, first(read))?),
         Command::Policy { .. } => Ok(policy(alloc, first(read))?),
         Command::Audit { .. } => Ok(audit(alloc, first(read))?),
+        Command::Replay { .. } => Ok(replay(alloc, first(read))?),
         Command::Attach { .. } => Ok(attach(alloc, first(read), second(read))?),
         Command::Verify { .. } => Ok(verify(alloc, first(read), second(read))?),
         Command::Consistent { size, root, .. } => {

@@ -1,10 +1,13 @@
-use Rattle.scitt_tool.proofs.OneText.{one_text}
+use Rattle.scitt_tool.proofs.OneText.{one_play, one_text}
 use Rattle.scitt_tool.proofs.SomeText.{some_text}
 use Rattle.scitt_tool.proofs.laws.words_and_files_have_one_text.Goals as goal
 
 pub returns-clause-some : goal.returns-clause-some
 returns-clause-some c =
     some_text c.whole_bytes_have_one_answer.ensures.either c.statements_have_one_answer.ensures.some c.documents_have_one_answer.ensures.some c.report_laws.ensures.some c.trust_files_have_one_answer.ensures.some c.verdicts_are_one.ensures.some
+
+pub returns-clause-played : goal.returns-clause-played
+returns-clause-played c = one_play c.bytes_are_one_script.ensures
 
 pub returns-clause-one : goal.returns-clause-one
 returns-clause-one c =

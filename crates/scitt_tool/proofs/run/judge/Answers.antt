@@ -19,6 +19,10 @@ pub returns-in_ok-audit-in-Audit-clause-judged : goal.returns-in_ok-audit-in-Aud
 returns-in_ok-audit-in-Audit-clause-judged g c =
     rw c.in-Audit.is (plain_over _ _ _ _ _ _ (λ key random. (rw c.first-in-Audit.ensures at c.in_ok-audit-in-Audit.ensures, refl)))
 
+pub returns-in_ok-replay-in-Replay-clause-judged : goal.returns-in_ok-replay-in-Replay-clause-judged
+returns-in_ok-replay-in-Replay-clause-judged g c =
+    rw c.in-Replay.is (plain_over _ _ _ _ _ _ (λ key random. (rw c.first-in-Replay.ensures at c.in_ok-replay-in-Replay.ensures.text, refl)))
+
 pub returns-in_ok-attach-in-Attach-clause-judged :
     goal.returns-in_ok-attach-in-Attach-clause-judged
 returns-in_ok-attach-in-Attach-clause-judged g c =
