@@ -1,18 +1,13 @@
 -- Logs that an accepted consistency receipt joins begin alike.
-use Rattle.std.proofs.Common.{◌≡◌, ℕ, zero, suc, ◌≤◌, ◌<◌, List, [], ◌∷◌, length, take, Option, None, Some, refl, sym, ap, ◌∙◌, subst, arith}
+use Rattle.std.proofs.Common.{◌≡◌, ℕ, zero, suc, ◌≤◌, List, [], ◌∷◌, length, take, Option, None, Some, refl, sym, ap, ◌∙◌, subst, arith}
 use Rattle.std.specs.Prelude.{filter_map}
 use Rattle.std.specs.List.{cons_option}
 use Rattle.std.proofs.lemmas.List.{length-take, take-take}
-use Rattle.merkle_tree.specs.Mth.{mth}
-use Rattle.receipts.specs.declared.receipt.Proof.TheVariants.{Consistency}
 use Rattle.log_replay.specs.Records.{Log, entry_of, leaves_of, entries_of}
 use Rattle.log_replay.specs.WellMade.{WellMade}
 use Rattle.log_replay.specs.Growth.{EntriesAreLeaves}
-use Rattle.relying_party.specs.declared.trust.Trust.{Trust}
-use Rattle.relying_party.specs.declared.answers.ConsistencyResult.{ConsistencyResult}
-use Rattle.relying_party.specs.declared.answers.ConsistencyResult.TheVariants.{Consistent}
 use Rattle.relying_party.specs.Meaning.{MeansGrowth, ReceiptsMeanGrowth}
-use Rattle.receipt_laws.specs.Growing.{HasFront, BeginAlike, ConsistentIsOfTheLogs}
+use Rattle.receipt_laws.specs.Growing.{BeginAlike, ConsistentIsOfTheLogs}
 
 -- ---- what is given of each element, where nothing is left out
 

@@ -1,7 +1,6 @@
 -- A log's consistency receipt is one within the limits, shows how the log grew, and is accepted.
 use Rattle.std.proofs.Common.{◌≡◌, ℕ, ◌+◌, ◌-◌, ◌<◌, ◌≤◌, true, List, length, take, Option, Some, sym, ap, ◌∙◌, subst, arith}
-use Rattle.std.specs.Prelude.{slice_get, option_map}
-use Rattle.std.proofs.lemmas.Option.{slice_get_within}
+use Rattle.std.specs.Prelude.{option_map}
 use Rattle.std.proofs.lemmas.List.{take_all}
 use Rattle.sha2.specs.Sha256.{sha256}
 use Rattle.sha2.proofs.Facts256.{length-sha256}
@@ -25,7 +24,7 @@ use Rattle.log_replay.specs.declared.parts.BatchParts.{BatchParts}
 use Rattle.log_replay.specs.Records.{Log, Entry, header_of, leaves_of, entries_of}
 use Rattle.log_replay.specs.WellMade.{WellMade, text_signed}
 use Rattle.log_replay.specs.Growth.{HeaderIsWithin, IsBounded, EntriesAreLeaves, StandsAt}
-use Rattle.log_replay.specs.Answers.{receipt_with, signed_at, consistency_of, ConsistencyIsOfLast}
+use Rattle.log_replay.specs.Answers.{receipt_with, signed_at, ConsistencyIsOfLast}
 use Rattle.relying_party.specs.declared.trust.Trust.{Trust}
 use Rattle.relying_party.specs.declared.answers.ConsistencyResult.TheVariants.{Consistent}
 use Rattle.relying_party.specs.Converse.{ShowsGrowth, GrownIsConsistent}
