@@ -8,3 +8,6 @@ pub mod RecordBytes
 pub mod EntryBytes
 pub mod Own
 pub mod Accepted
+pub mod Fronts
+pub mod Proofs
+pub mod Grown

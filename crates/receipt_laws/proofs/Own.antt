@@ -37,7 +37,7 @@ use Rattle.receipt_laws.proofs.EntryBytes.{IsWritten, is_written}
 
 -- ---- where the header stands
 
-record HeaderAt (R : Log) (h : Header) : Type 0 where
+pub record HeaderAt (R : Log) (h : Header) : Type 0 where
   pub place : ℕ
   pub body : List ℕ
   pub there : slice_get R place ≡ Some body
@@ -52,7 +52,7 @@ by_first x R h (Some (header_record g)) is rest e = record { place = 0; body = x
 by_first x R h (Some (reserve_record n)) is rest e = cc
 by_first x R h (Some (batch_record b)) is rest e = cc
 
-header_at : (R : Log) (h : Header) → header_of R ≡ Some h → HeaderAt R h
+pub header_at : (R : Log) (h : Header) → header_of R ≡ Some h → HeaderAt R h
 header_at [] h e = cc
 header_at (x ∷ R) h e = by_first x R h (record_of x) refl (header_at R h) e
 

@@ -13,16 +13,16 @@ use Rattle.receipts.specs.Fits.{AreHashes, IsPath}
 power_up : (i j : ℕ) → i ≤ j → 2 ^ i ≤ 2 ^ j
 power_up i j h = pow-le-pow_right (omega arith) h
 
-abbrev Splits : Type 0
+abbrev pub Splits : Type 0
 Splits = (n : ℕ) → 2 ≤ n → IsLargestPowerBelow n (split_point n)
 
 -- both parts of at most 2 ^ (j + 1) leaves have some, and at most 2 ^ j
-record AreParts (j n k : ℕ) : Type 0 where
+pub record AreParts (j n k : ℕ) : Type 0 where
   pub front : k ≤ 2 ^ j
   pub back : n ≤ k + 2 ^ j
   pub below : k < n
 
-parts : Splits → (j n : ℕ) → 2 ≤ n → n ≤ 2 ^ suc j → AreParts j n (split_point n)
+pub parts : Splits → (j n : ℕ) → 2 ≤ n → n ≤ 2 ^ suc j → AreParts j n (split_point n)
 parts split j n two few =
     let s = split n two in
     record {
@@ -38,7 +38,7 @@ parts split j n two few =
     }
 
 -- at most so many hashes
-abbrev Hashes : ℕ → List (List ℕ) → Type 0
+abbrev pub Hashes : ℕ → List (List ℕ) → Type 0
 Hashes j path = (length path ≤ j) × AreHashes path
 
 hashes_more : (xs : List (List ℕ)) (x : List ℕ) → AreHashes xs → length x ≡ 32 → AreHashes (xs ++ x ∷ [])
@@ -48,7 +48,7 @@ hashes_more (y ∷ ys) x are long = (are.0, hashes_more ys x are.1 long)
 no_hashes : (j : ℕ) (path : List (List ℕ)) → path ≡ [] → Hashes j path
 no_hashes j path e = subst (Hashes j) (sym e) (omega arith, tt)
 
-longer : (xs : List (List ℕ)) (x : List ℕ) (all : List (List ℕ)) (n : ℕ) → all ≡ xs ++ x ∷ [] → length x ≡ 32 → Hashes n xs → Hashes (suc n) all
+pub longer : (xs : List (List ℕ)) (x : List ℕ) (all : List (List ℕ)) (n : ℕ) → all ≡ xs ++ x ∷ [] → length x ≡ 32 → Hashes n xs → Hashes (suc n) all
 longer xs x all n e long (short, are) =
     subst (Hashes (suc n)) (sym e) (omega (arith, length-append xs (x ∷ []), short), hashes_more xs x are long)
 

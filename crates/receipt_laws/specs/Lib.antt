@@ -1,3 +1,4 @@
 pub mod Standing
 pub mod Meaning
 pub mod Own
+pub mod Growing

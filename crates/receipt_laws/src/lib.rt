@@ -4,6 +4,7 @@
 mod laws;
 
 pub use laws::{
-    accepted_receipts_are_of_the_log, entries_have_receipts, entries_were_admitted,
-    own_receipts_are_accepted,
+    accepted_receipts_are_of_the_log, consistent_logs_begin_alike, entries_have_receipts,
+    entries_were_admitted, own_consistency_is_accepted, own_receipts_are_accepted,
+    sizes_have_consistency_receipts,
 };
