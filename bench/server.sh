@@ -64,7 +64,7 @@ get() { curl -s --max-time 30 -o "$2" -w '%{http_code}' "$url$1"; }
 
 # Starts the server and waits until it answers.
 start() {
-    "$top/crates/scittd/out/scittd" "$place/scitt.log" "$place/seed" "$place/params" "127.0.0.1:$port" 4 >"$place/printed" &
+    "$top/crates/scittd/out/scittd" "$place/scitt.log" "$place/seed" "$place/params" "127.0.0.1:$port" 8 >"$place/printed" &
     server=$!
     tries=0
     while [ "$tries" -lt 150 ]; do
@@ -137,7 +137,12 @@ done
     done
 ) &
 posts=$!
-sleep 0.3
+# after the third answer, so in the middle of the others
+tries=0
+while [ ! -s killed3.status ] && [ "$tries" -lt 1000 ]; do
+    tries=$((tries + 1))
+    sleep 0.01
+done
 kill -9 "$server"
 wait "$server" 2>/dev/null
 wait "$posts"
@@ -192,8 +197,8 @@ if command -v wrk >/dev/null 2>&1; then
     done
     if command -v nginx >/dev/null 2>&1; then
         mkdir web && cp receipt1 web/receipt
-        printf 'daemon off; worker_processes 4; pid %s/pid; error_log stderr; events {} http { access_log off; server { listen 127.0.0.1:%s; root %s/web; } }\n' \
-            "$place" $((port + 1)) "$place" >nginx.conf
+        printf 'daemon off; user %s %s; worker_processes 4; pid %s/pid; error_log stderr; events {} http { access_log off; server { listen 127.0.0.1:%s; root %s/web; } }\n' \
+            "$(id -un)" "$(id -gn)" "$place" $((port + 1)) "$place" >nginx.conf
         nginx -p "$place" -c "$place/nginx.conf" 2>/dev/null &
         web=$!
         sleep 1

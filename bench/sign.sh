@@ -49,8 +49,9 @@ for levels in h5w8 h10w4 h5w8,h10w4; do
     height=${first#h} width=${first#*w}
     height=${height%w*}
     rm -f kept.key
-    line keygen "$levels" "$(least "$scitt" keygen "$levels")" "$(tree "$height" "$width")"
+    took=$(least "$scitt" keygen "$levels")
     mv scitt.key kept.key
+    line keygen "$levels" "$took" "$(tree "$height" "$width")"
     all=0
     for level in $(echo "$levels" | tr ',' ' '); do
         height=${level#h} width=${level#*w}
