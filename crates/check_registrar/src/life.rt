@@ -1,0 +1,176 @@
+// A log from its beginning, over a stop, to its second entry.
+use scitt_disk::MemDisk;
+use std::alloc::Global;
+use std::process::Abort;
+use std::test::Fail;
+use test_cast::{digest, fresh, genesis, issued, new_cast};
+use test_plays::{Step, begins, goes_on, loads};
+
+const ALG: &[u8] = &[0x38, 0x2d];
+
+const MOMENT: u64 = 1_700_000_000;
+
+// What the disk of a closed log holds has this hash.
+fn keeps(rt: &impl Abort, alloc: Global, disk: MemDisk, wanted: &str) -> Result<(), Fail> {
+    let content = disk.into_content();
+    let hash = digest(alloc, &content)?;
+    assert_eq!(rt; hash.as_str(), wanted);
+    Ok(())
+}
+
+// Counts, policy and keys of a new log, and three denials.
+const NEW: &str = "counts 0 1 0 0
+83ce4b2b8c81f3651a84b2d8839984f59fc21788b4da07f426788ec58b728bf8
+d33f0ee9f00e46111a25636c131ae560d8f6b44da98e0b860f47b8681901f6dc
+denied 4 0 1700000000
+denied 2 0 1700000000
+denied 2 0 1700000000
+";
+
+// The algorithms are -46, -7 and none, before a policy names the issuer.
+#[test]
+fn begins_judges_and_answers(rt: HostRuntime) -> Result<(), Fail> {
+    let alloc = rt.alloc();
+    let mut cast = new_cast(alloc)?;
+    let usual = issued(alloc, &mut cast, 0, ALG, &[0])?;
+    let other = issued(alloc, &mut cast, 0, &[0x26], &[0])?;
+    let none = issued(alloc, &mut cast, 0, &[], &[0])?;
+    let steps = [
+        Step::Counts,
+        Step::Policy,
+        Step::Keys,
+        Step::Judge(&usual, MOMENT),
+        Step::Judge(&other, MOMENT),
+        Step::Judge(&none, MOMENT),
+    ];
+    let life = begins(alloc, fresh(alloc, &[])?, &cast, 100, 4, &steps)?;
+    assert_eq!(rt; life.text.as_str(), NEW);
+    keeps(
+        &rt,
+        alloc,
+        life.disk,
+        "ec5a9f2717dc2df79b40f7954a376077b5b7ba6e4803941e4495e2892ffafdc9",
+    )
+}
+
+const FIRST: &str = "admitted 0 5ce6378934486cd6513ec24957307b23e65e496cb74626f065a0be11a2ac6b1e
+known 0 5ce6378934486cd6513ec24957307b23e65e496cb74626f065a0be11a2ac6b1e
+counts 1 3 1 0
+5ce6378934486cd6513ec24957307b23e65e496cb74626f065a0be11a2ac6b1e
+no entry 1 1
+no entry 5 1
+5dc3253dea553f89dc950d2bc9736c39731c85e04f27da5115a2174ea66ad7f3
+no entry 1 1
+no entry 5 1
+no size 0 1
+83175765ab916810105b57b31f04046197e9b9fc806c77c81e84d17bec5ad5ec
+no size 3 1
+9a87595a6fdbab5fc8f92494c197e80a987b88e5004a97da95107229df36ae0b
+";
+
+// The first entry, by what is read back of it.
+#[test]
+fn admits_its_policy_and_reads_it_back(rt: HostRuntime) -> Result<(), Fail> {
+    let alloc = rt.alloc();
+    let mut cast = new_cast(alloc)?;
+    let genesis = genesis(alloc, &mut cast)?;
+    let steps = [
+        Step::Register(&genesis, MOMENT),
+        Step::Register(&genesis, MOMENT + 5),
+        Step::Counts,
+        Step::Receipt(0),
+        Step::Receipt(1),
+        Step::Receipt(5),
+        Step::Statement(0),
+        Step::Statement(1),
+        Step::Statement(5),
+        Step::Consistency(0),
+        Step::Consistency(1),
+        Step::Consistency(3),
+        Step::Policy,
+    ];
+    let life = begins(alloc, fresh(alloc, &[])?, &cast, 100, 4, &steps)?;
+    assert_eq!(rt; life.text.as_str(), FIRST);
+    keeps(
+        &rt,
+        alloc,
+        life.disk,
+        "ce3568314758cf6063bfb7d87175c585cc7cef8b12822c45fa9c31a79852d512",
+    )
+}
+
+// A log whose one entry is the policy, closed.
+fn with_its_policy(alloc: Global) -> Result<MemDisk, Fail> {
+    let mut cast = new_cast(alloc)?;
+    let genesis = genesis(alloc, &mut cast)?;
+    let steps = [Step::Register(&genesis, MOMENT)];
+    let life = begins(alloc, fresh(alloc, &[])?, &cast, 100, 4, &steps)?;
+    Ok(life.disk)
+}
+
+// The key that is kept, and the one that another seed derives.
+const WRONG: &str =
+    "wrong key 00000001000000050000000109090909090909090909090909090909696bbbe510d5abb9b6fe439714503b25807a45adeabea982b9e30f52337aae3c 00000001000000050000000109090909090909090909090909090909f1e2c7acb94844712c56762625a3210243543c5f8b3cd82feb8f30767242b9c8";
+
+#[test]
+fn refuses_another_seed(rt: HostRuntime) -> Result<(), Fail> {
+    let alloc = rt.alloc();
+    let disk = with_its_policy(alloc)?;
+    let life = loads(alloc, disk, [8; 32], &[])?;
+    assert_eq!(rt; life.text.as_str(), WRONG);
+    keeps(
+        &rt,
+        alloc,
+        life.disk,
+        "ce3568314758cf6063bfb7d87175c585cc7cef8b12822c45fa9c31a79852d512",
+    )
+}
+
+const SECOND: &str = "counts 1 3 4 0
+admitted 1 5097283dd7347d2ad6dcdf48da62086645f9ec1923532be26a8dc5fbbcdce36b
+known 1 5097283dd7347d2ad6dcdf48da62086645f9ec1923532be26a8dc5fbbcdce36b
+counts 2 5 5 0
+5ce6378934486cd6513ec24957307b23e65e496cb74626f065a0be11a2ac6b1e
+5097283dd7347d2ad6dcdf48da62086645f9ec1923532be26a8dc5fbbcdce36b
+no entry 5 2
+5dc3253dea553f89dc950d2bc9736c39731c85e04f27da5115a2174ea66ad7f3
+7dadc949f7fb97a103a5189e4383aa24f3c6201ee1631957fa9c30621c4e3700
+no entry 5 2
+no size 0 2
+6089cbf2602c278f8c94c6c5b5a9468b3cf6e810d4eb341d57106caca4877f12
+f492ac9283628bd279407395a15c590d8883e3a93dcd49c2d2d299266758b1bd
+no size 3 2
+";
+
+// The block is 4: the first entry has the signing index 0, and after the stop the second one has 4.
+#[test]
+fn goes_on_from_its_reservation_after_a_stop(rt: HostRuntime) -> Result<(), Fail> {
+    let alloc = rt.alloc();
+    let disk = with_its_policy(alloc)?;
+    let mut cast = new_cast(alloc)?;
+    let acme = issued(alloc, &mut cast, 0, ALG, &[0])?;
+    let steps = [
+        Step::Counts,
+        Step::Register(&acme, MOMENT + 1),
+        Step::Register(&acme, MOMENT + 9),
+        Step::Counts,
+        Step::Receipt(0),
+        Step::Receipt(1),
+        Step::Receipt(5),
+        Step::Statement(0),
+        Step::Statement(1),
+        Step::Statement(5),
+        Step::Consistency(0),
+        Step::Consistency(1),
+        Step::Consistency(2),
+        Step::Consistency(3),
+    ];
+    let life = goes_on(alloc, disk, &steps)?;
+    assert_eq!(rt; life.text.as_str(), SECOND);
+    keeps(
+        &rt,
+        alloc,
+        life.disk,
+        "442ba6af7ec4986482c1a5f04848e500f0083944a016aac042ab0620b3fe7039",
+    )
+}

@@ -1,0 +1,17 @@
+//! Tests of a connection that is served on one thread. The hashes of what is heard come from `bench/sessions.py` and `bench/large.py`,
+//! programs of their own in Python by the rules of `docs/profile`.
+#![tactic(auto)]
+
+#[cfg(test)]
+mod faults;
+#[cfg(test)]
+mod heads;
+#[cfg(test)]
+mod large;
+#[cfg(test)]
+mod life;
+mod sending;
+mod talking;
+
+pub use sending::{get, gets, post, posts, with_body};
+pub use talking::{Life, Talk, begins, goes_on, makes, sends};
