@@ -112,5 +112,3 @@ if __name__=='__main__':
     print('g',len(g),'a',len(a),'policy2',len(s2))
     # row 21
     print('sum g+a',len(g)+len(a))
-    # the first record's index is spent by a fault, and another statement follows
-    L=Log(svc,"log",G,100,4);L.rec.append(enc([1,4]));L.res=4;L.next=1;L.add(1001,1,g);d('follows',L.file())
