@@ -5,6 +5,8 @@
 mod bad;
 mod making;
 #[cfg(test)]
+mod signing;
+#[cfg(test)]
 mod stops;
 #[cfg(test)]
 mod takes;

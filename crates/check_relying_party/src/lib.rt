@@ -2,7 +2,11 @@
 #![tactic(auto)]
 
 #[cfg(test)]
+mod changed;
+#[cfg(test)]
 mod growth;
+#[cfg(test)]
+mod many;
 #[cfg(test)]
 mod statements;
 #[cfg(test)]

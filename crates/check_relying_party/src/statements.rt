@@ -11,7 +11,7 @@ pub fn trust_of(alloc: Global, issuers: &str) -> Result<Trust, Fail> {
 }
 
 /// A byte string's head in hexadecimal and the string.
-fn string(alloc: Global, text: &str) -> Result<String, Fail> {
+pub fn string(alloc: Global, text: &str) -> Result<String, Fail> {
     let len = text.len() / 2;
     let head = if len < 24 {
         format!(in alloc; "{:02x}", 0x40 + len)?
@@ -81,7 +81,7 @@ fn said(alloc: Global, trust: &Trust, number: usize, unprotected: &str) -> Resul
     verdict_text(alloc, &verdict)
 }
 
-fn worked(alloc: Global, row: &str) -> Result<(String, String), Fail> {
+pub fn worked(alloc: Global, row: &str) -> Result<(String, String), Fail> {
     let (protected, rest) = row.split_once("|").ok_or("no bar")?;
     let (unprotected, wanted) = rest.split_once("|").ok_or("no bar")?;
     let text = receipt(alloc, protected, unprotected, SIGNATURE)?;

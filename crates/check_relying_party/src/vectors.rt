@@ -99,3 +99,25 @@ pub const TRUST: &[&str] = &[
     "8301815818|Cbor Truncated at 3",
     "831801818080|Cbor NotShortest at 1",
 ];
+
+// Ranges of bytes of the first receipt, each from one place to before another, and the first rule that fails where one of them is one more,
+// by bench/changed.py.
+pub const CHANGED: &[(usize, usize, u8)] = &[
+    (0, 11, 1),
+    (11, 43, 3),
+    (43, 47, 1),
+    (47, 50, 3),
+    (50, 59, 1),
+    (59, 60, 4),
+    (60, 70, 1),
+    (70, 71, 4),
+    (71, 72, 5),
+    (72, 75, 1),
+    (75, 107, 7),
+    (107, 114, 1),
+    (114, 118, 7),
+    (118, 119, 1),
+    (119, 120, 7),
+    (120, 124, 1),
+    (124, 2768, 7),
+];
