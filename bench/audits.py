@@ -5,9 +5,11 @@ and the line of `scitt audit`. The records are those of logs.py, with keys of LM
 """
 import os, sys
 sys.dont_write_bytecode=True
+import forms
+forms.CODE=3
 from forms import *
-from logs import records
-R,entries=records(3)
+from logs import R,eg,ea,eb
+entries=[eg,ea,eb]
 def framed(body): return b'\1'+u32(len(body))+body
 pieces={n:framed(b) for n,b in R.items()}
 pieces['shut']=b'\0'

@@ -5,7 +5,7 @@ strict CBOR, its own reader of Merkle paths and its own verifier of HSS (RFC 855
 """
 import sys
 sys.dont_write_bytecode=True
-from forms import H,u8,u16,u32,P,digits,enc,tbs
+from forms import H,u8,u16,u32,OTS as TYPES,digits,enc,tbs
 from transparent import whole,service,S,logged,entry
 class Bad(Exception): pass
 def need(holds):
@@ -90,6 +90,7 @@ def root_from(index,size,leaf,path):
     return r if sn==0 else None
 def number_at(b,at): return int.from_bytes(b[at:at+4],'big')
 # the standard's algorithms 4b, 6a and 8 (RFC 8554), the codes of the key and of the signature being the same
+P=TYPES[4][1]
 OTS=4+32+P*32
 LMS=4+OTS+4+5*32
 def lms_verifies(key,sig,message):
@@ -98,7 +99,7 @@ def lms_verifies(key,sig,message):
     if number_at(sig,4)!=4 or number_at(sig,4+OTS)!=5 or q>=32: return False
     C=sig[8:40]
     ends=[]
-    for i,a in enumerate(digits(H(I+u32(q)+u16(0x8181)+C+message))):
+    for i,a in enumerate(digits(H(I+u32(q)+u16(0x8181)+C+message),4)):
         t=sig[40+32*i:72+32*i]
         for j in range(a,255): t=H(I+u32(q)+u16(i)+u8(j)+t)
         ends.append(t)

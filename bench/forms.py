@@ -17,8 +17,11 @@ def digits(q,code):
 def chain(front,t,n):
     for j in range(n): t=H(front+u8(j)+t)
     return t
+# the LM-OTS code of keys that name none; set it before logs.py is read
+CODE=4
 class Key:
-    def __init__(self,seed,I,code=4,h=5):
+    def __init__(self,seed,I,code=None,h=5):
+        code=code or CODE
         self.I=I; self.seed=seed; self.h=h; self.code=code
         w,p,_=OTS[code]
         self.T={}

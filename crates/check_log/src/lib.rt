@@ -1,6 +1,10 @@
-//! Tests of `log_replay`. The records were made by a program of its own, in Python, from the rules of `docs/profile/log.md`.
+//! Tests of the log: which ones are well made, the first rule that the others break, and what statements are judged to be.
 #![tactic(auto)]
 
+#[cfg(test)]
+mod judgement_vectors;
+#[cfg(test)]
+mod judgements;
 #[cfg(test)]
 mod log_vectors;
 #[cfg(test)]

@@ -1,20 +1,46 @@
 // Which logs are well made, and the first rule that the others break.
 
-use crate::log_vectors::{LOGS, RECORDS};
+use crate::log_vectors::{LOGS, RECORDS_0, RECORDS_1, RECORDS_2};
 use log_replay::{
     Failing, State, StepStop, Why, entry_bytes, entry_parts, read_batch, reserve_body,
 };
 use std::alloc::{AllocError, Global};
+use std::process::Abort;
 use std::test::Fail;
 
-fn record(alloc: Global, name: &str) -> Result<Vec<u8>, Fail> {
-    for line in RECORDS {
-        let (known, digits) = line.split_once('|').ok_or("a line without a name")?;
-        if known == name {
-            return Ok(hex::decode(alloc, digits)?);
+// The digits behind a name, where a table has it.
+fn digits_in(table: &[&'static str], name: &str) -> Option<&'static str> {
+    for line in table {
+        match line.split_once('|') {
+            Some((known, digits)) if known == name => return Some(digits),
+            _ => {}
         }
     }
-    Err("no such record".into())
+    None
+}
+
+fn in_first(name: &str) -> Option<&'static str> {
+    digits_in(RECORDS_0, name)
+}
+
+fn in_second(name: &str) -> Option<&'static str> {
+    digits_in(RECORDS_1, name)
+}
+
+fn in_third(name: &str) -> Option<&'static str> {
+    digits_in(RECORDS_2, name)
+}
+
+pub fn record(alloc: Global, name: &str) -> Result<Vec<u8>, Fail> {
+    let found = match in_first(name) {
+        Some(digits) => Some(digits),
+        None => match in_second(name) {
+            Some(digits) => Some(digits),
+            None => in_third(name),
+        },
+    };
+    let digits = found.ok_or("no such record")?;
+    Ok(hex::decode(alloc, digits)?)
 }
 
 fn name_of(why: Why) -> &'static str {
@@ -49,8 +75,7 @@ fn said(alloc: Global, answer: Option<Failing>) -> Result<String, AllocError> {
 }
 
 // Feeds the records with these names, and says what the last one fails.
-fn fed(alloc: Global, names: &[&str]) -> Result<String, Fail> {
-    let mut state = State::new(alloc);
+fn feed(alloc: Global, state: &mut State, names: &[&str]) -> Result<String, Fail> {
     let mut last = String::from_str(alloc, "no record")?;
     for name in names {
         if !name.is_empty() {
@@ -59,6 +84,11 @@ fn fed(alloc: Global, names: &[&str]) -> Result<String, Fail> {
         }
     }
     Ok(last)
+}
+
+fn fed(alloc: Global, names: &[&str]) -> Result<String, Fail> {
+    let mut state = State::new(alloc);
+    feed(alloc, &mut state, names)
 }
 
 #[test]
@@ -71,10 +101,7 @@ fn each_log_has_its_first_failing_rule(rt: HostRuntime) -> Result<(), Fail> {
 }
 
 // The roots are those that the program computed, of no entry, the first one, the first two and all three.
-#[test]
-fn a_state_tells_what_its_log_says(rt: HostRuntime) -> Result<(), Fail> {
-    let alloc = rt.alloc();
-    let mut state = State::new(alloc);
+fn compare_state(rt: &impl Abort, alloc: Global, state: &mut State) -> Result<(), Fail> {
     let root = hex::encode(alloc, state.root().as_slice())?;
     assert_eq!(rt;
         root.as_str(),
@@ -113,6 +140,12 @@ fn a_state_tells_what_its_log_says(rt: HostRuntime) -> Result<(), Fail> {
     assert_eq!(rt; state.reserved(), 4);
     assert_eq!(rt; state.last_moment(), 1001);
     Ok(())
+}
+
+#[test]
+fn a_state_tells_what_its_log_says(rt: HostRuntime) -> Result<(), Fail> {
+    let mut state = State::new(rt.alloc());
+    compare_state(&rt, rt.alloc(), &mut state)
 }
 
 #[test]
