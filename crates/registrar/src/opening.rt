@@ -146,8 +146,7 @@ fn begin(alloc: Global, seed: Hash, id: [u8; 16], params: Params) -> Result<Begu
         max_entries,
         block,
     };
-    let written = header_body(alloc, &header)?;
-    let body = Vec::from_slice(alloc, written.as_slice())?;
+    let body = header_body(alloc, &header)?.into_vec();
     let state = first_state(alloc, &header, &body)?;
     Ok(Begun {
         body,

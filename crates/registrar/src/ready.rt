@@ -106,7 +106,7 @@ fn batch_of(
     let mut entries = Blobs::new(alloc);
     entries.push(entry)?;
     let body = batch_body(alloc, &entries, index, signature)?;
-    Vec::from_slice(alloc, body.as_slice())
+    Ok(body.into_vec())
 }
 
 // The receipt of the entry of this index, the last one of its tree.
@@ -155,8 +155,7 @@ fn reserve_of(alloc: Global, upto: u64) -> Result<Needed, AllocError>
     ensures reads { IfOk result (λ n. record_of n.body.items ≡ Some (reserve_record upto)) }
     ensures short { IfOk result (λ n. IsShort n.body.items) }
 {
-    let body = reserve_body(alloc, upto)?;
-    let body = Vec::from_slice(alloc, body.as_slice())?;
+    let body = reserve_body(alloc, upto)?.into_vec();
     Ok(Needed { upto, body })
 }
 
