@@ -64,7 +64,7 @@ fn create_refuses_a_log(rt: HostRuntime) -> Result<(), Fail> {
 #[test]
 fn append_goes_on_after_a_fault(rt: HostRuntime) -> Result<(), Fail> {
     let alloc = rt.alloc();
-    for call in 5..9 {
+    for call in 4..8 {
         let disk = MemDisk::new(Vec::from_slice(alloc, &ONE)?, [call].to_vec(alloc)?);
         let Ok(mut journal) = Journal::load(alloc, disk) else {
             return Err(Fail::new("the load fails"));
@@ -73,7 +73,7 @@ fn append_goes_on_after_a_fault(rt: HostRuntime) -> Result<(), Fail> {
         assert_eq!(rt; journal.count(), 1);
         assert!(rt; journal.append(&[3, 4]).is_err());
         assert_eq!(rt; journal.count(), 1);
-        assert_eq!(rt; journal.needs_repair(), call >= 7);
+        assert_eq!(rt; journal.needs_repair(), call >= 6);
         assert!(rt; journal.repair().is_ok());
         assert!(rt; !journal.needs_repair());
         journal.reserve_buffer(2)?;
@@ -90,8 +90,8 @@ fn append_goes_on_after_a_fault(rt: HostRuntime) -> Result<(), Fail> {
 #[test]
 fn repair_fails_and_goes_on(rt: HostRuntime) -> Result<(), Fail> {
     let alloc = rt.alloc();
-    for call in 9..11 {
-        let disk = MemDisk::new(Vec::from_slice(alloc, &ONE)?, [8, call].to_vec(alloc)?);
+    for call in 8..10 {
+        let disk = MemDisk::new(Vec::from_slice(alloc, &ONE)?, [7, call].to_vec(alloc)?);
         let Ok(mut journal) = Journal::load(alloc, disk) else {
             return Err(Fail::new("the load fails"));
         };

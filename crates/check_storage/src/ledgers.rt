@@ -47,7 +47,7 @@ fn a_record_is_pending_once_the_write_of_its_gate_was_begun(rt: HostRuntime) -> 
     let body = [5, 6, 7].to_vec(alloc)?;
     for passes in 0..4 {
         let disk = MemDisk::new(log.to_vec(alloc)?, Vec::new(alloc));
-        let Ok(mut ledger) = Ledger::load(alloc, FuseDisk::new(disk, passes + 6)) else {
+        let Ok(mut ledger) = Ledger::load(alloc, FuseDisk::new(disk, passes + 5)) else {
             return Err(Fail::new("the file isn't loaded"));
         };
         ledger.reserve_buffer(3)?;
@@ -77,7 +77,7 @@ fn a_record_is_pending_once_the_write_of_its_gate_was_begun(rt: HostRuntime) -> 
 fn a_pending_record_is_settled(rt: HostRuntime) -> Result<(), Fail> {
     let alloc = rt.alloc();
     let body = [5].to_vec(alloc)?;
-    for call in 8..10 {
+    for call in 7..9 {
         let disk = MemDisk::new([1, 0, 0, 0, 1, 2, 0].to_vec(alloc)?, [call].to_vec(alloc)?);
         let Ok(mut ledger) = Ledger::load(alloc, disk) else {
             return Err(Fail::new("the file isn't loaded"));

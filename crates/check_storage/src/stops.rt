@@ -8,7 +8,7 @@ use std::test::Fail;
 const ONE: [u8; 7] = [1, 0, 0, 0, 1, 2, 0];
 
 // The calls of the disk that its load makes.
-const LOAD_CALLS: u32 = 5;
+const LOAD_CALLS: u32 = 4;
 
 #[test]
 fn finds_the_records(rt: HostRuntime) -> Result<(), Fail> {
@@ -90,6 +90,21 @@ fn a_stop_leaves_the_records_before_or_with_the_new_one(rt: HostRuntime) -> Resu
             4 => assert_eq!(rt; with, 16),
             _ => assert_eq!(rt; before, 16),
         }
+    }
+    Ok(())
+}
+
+// A load syncs, asks for the length and reads each gate once, the last one too.
+#[test]
+fn a_load_reads_each_gate_once(rt: HostRuntime) -> Result<(), Fail> {
+    let alloc = rt.alloc();
+    let three = [
+        1, 0, 0, 0, 1, 2, 1, 0, 0, 0, 2, 3, 4, 1, 0, 0, 0, 3, 5, 6, 7, 0,
+    ];
+    for calls in 0..7 {
+        let beneath = MemDisk::new(Vec::from_slice(alloc, &three)?, Vec::new(alloc));
+        let loaded = Journal::load(alloc, FuseDisk::new(beneath, calls));
+        assert_eq!(rt; loaded.is_ok(), calls == 6, "after {calls} calls");
     }
     Ok(())
 }

@@ -79,12 +79,28 @@ short_at seen gate offsets was opened within six cut =
     }
 
 -- why the walk stops
-pub explains_walk : (Tells : Type 0) (seen seen_now offsets : List ℕ) (gate before middle now : ℕ) (stop : LoadStop) → middle ≡ before → (Tells → seen_now ≡ seen) → (Tells → Scanned seen gate offsets) → (Tells → get_or seen gate 0 ≡ 1) → (Tells → gate < length seen) → (Tells → 6 ≤ length seen) → ExplainsCut Tells seen_now gate middle now stop → ExplainsLoad Tells seen before now stop
-explains_walk Tells seen seen_now offsets gate before middle now no_log same kept was opened within six why = absurd why
-explains_walk Tells seen seen_now offsets gate before middle now (short at) same kept was opened within six why =
-    (λ tells. rw (why.0) (short_at seen gate offsets (was tells) (opened tells) (within tells) (six tells) (rw (kept tells) at (why.1 tells))), why.2 ∙ same)
-explains_walk Tells seen seen_now offsets gate before middle now disk_fault same kept was opened within six why = omega arith
-explains_walk Tells seen seen_now offsets gate before middle now out_of_memory same kept was opened within six why = absurd why
+pub explains_walk : (Tells : Type 0) (seen seen_now offsets : List ℕ) (gate before middle now : ℕ) (stop : LoadStop) → middle ≡ before → (Tells → seen_now ≡ seen) → (Tells → Scanned seen gate offsets) → (Tells → gate < length seen) → (Tells → 6 ≤ length seen) → ExplainsCut Tells seen_now gate middle now stop → ExplainsLoad Tells seen before now stop
+explains_walk Tells seen seen_now offsets gate before middle now no_log same kept was within six why = absurd why
+explains_walk Tells seen seen_now offsets gate before middle now (short at) same kept was within six why = (
+  λ tells.
+      let cut : (get_or seen gate 0 ≡ 1) × Cut (drop (gate + 1) seen) = rw (kept tells) at (why.1 tells) in
+      rw (why.0) (short_at seen gate offsets (was tells) cut.0 (within tells) (six tells) cut.1),
+  why.2 ∙ same,
+)
+explains_walk Tells seen seen_now offsets gate before middle now disk_fault same kept was within six why = omega arith
+explains_walk Tells seen seen_now offsets gate before middle now out_of_memory same kept was within six why = absurd why
 
 pub pushed_is : {T E : Type 0} (r : Result T E) (x : T) (old new : List ℕ) (y : ℕ) → r ≡ Ok x → new ≡ (if is_ok r then old ++ y ∷ [] else old) → new ≡ old ++ y ∷ []
 pushed_is r x old new y ok e = rw ok at e
+
+four_of : (first : ℕ) (rest : List ℕ) → 4 ≤ length rest → get_or (take 5 (first ∷ rest)) 1 0 ∷ get_or (take 5 (first ∷ rest)) 2 0 ∷ get_or (take 5 (first ∷ rest)) 3 0 ∷ get_or (take 5 (first ∷ rest)) 4 0 ∷ [] ≡ take 4 rest
+four_of first [] long = absurd (omega (arith, long))
+four_of first (a ∷ []) long = absurd (omega (arith, long))
+four_of first (a ∷ b ∷ []) long = absurd (omega (arith, long))
+four_of first (a ∷ b ∷ c ∷ []) long = absurd (omega (arith, long))
+four_of first (a ∷ b ∷ c ∷ d ∷ rest) long = refl
+
+-- the last four of five bytes are those behind the first one's place
+pub four_behind : (seen bytes : List ℕ) (at : ℕ) → bytes ≡ take 5 (drop at seen) → at + 5 ≤ length seen → get_or bytes 1 0 ∷ get_or bytes 2 0 ∷ get_or bytes 3 0 ∷ get_or bytes 4 0 ∷ [] ≡ take 4 (drop (at + 1) seen)
+four_behind seen bytes at is within =
+    rw (is, drop_more seen at 0 (omega arith)) (four_of (get_or seen at 0) (drop (at + 1) seen) (omega (arith, length-drop (at + 1) seen)))

@@ -30,7 +30,7 @@ ExplainsBody before now read_memory = now ≡ before
 -- why there is no next gate
 abbrev pub ExplainsCut : Type 0 → List ℕ → ℕ → ℕ → ℕ → LoadStop → Type 0
 ExplainsCut Tells bytes gate before now no_log = ⊥
-ExplainsCut Tells bytes gate before now (short at) = (at ≡ gate) × (Tells → Cut (drop (gate + 1) bytes)) × (now ≡ before)
+ExplainsCut Tells bytes gate before now (short at) = (at ≡ gate) × (Tells → (slice_index bytes gate ≡ 1) × Cut (drop (gate + 1) bytes)) × (now ≡ before)
 ExplainsCut Tells bytes gate before now disk_fault = Rose before now
 ExplainsCut Tells bytes gate before now out_of_memory = ⊥
 

@@ -1,5 +1,5 @@
 // How the records of a file are found.
-ghost use Rattle.std.specs.Prelude.{◌≡◌, ℕ, ◌+◌, ◌-◌, ◌*◌, ◌≤◌, ◌^◌, ◌<◌, max, IsTrue, IfOk, IfErr, IsErrOf, OnOk, ◌⊎◌, [], ◌∷◌, ◌++◌, List, length, take, drop, slice_index, vec_len, vec_capacity};
+ghost use Rattle.std.specs.Prelude.{◌≡◌, ◌≢◌, ℕ, ◌+◌, ◌-◌, ◌*◌, ◌≤◌, ◌^◌, ◌<◌, max, IsTrue, IfOk, IfSome, IfErr, IsErrOf, OnOk, ◌⊎◌, [], ◌∷◌, ◌++◌, List, length, take, drop, None, slice_index, vec_len, vec_capacity};
 ghost use Rattle.scitt_io.specs.Causes.{HasCause, Rose};
 ghost use Rattle.scitt_disk.specs.Images.{CrashLeaves, moment};
 ghost use Rattle.scitt_disk.specs.Changes.{after_sync};
@@ -42,20 +42,32 @@ pub fn read_byte<D: Disk>(disk: &mut D, at: u64) -> Result<u8, DiskFault>
     Ok(byte[0])
 }
 
-// The number that four bytes from a place on spell.
-fn read_size<D: Disk>(disk: &mut D, at: u64) -> Result<u32, DiskFault>
-    ensures size { IfOk result (λ size. IsTrue D.tells
-        → size ≡ size_in (take 4 (drop at (D.held disk.old).seen))) }
-    ensures spells { IfOk result (λ size. IsTrue D.tells
-        → size_bytes size ≡ take 4 (drop at (D.held disk.old).seen)) }
+// A gate, and the number that the four bytes behind it spell.
+#[derive(Clone, Copy)]
+struct Head {
+    gate: u8,
+    size: u32,
+}
+
+// The gate at a place and the four bytes behind it, by one read.
+fn read_head<D: Disk>(disk: &mut D, at: u64) -> Result<Head, DiskFault>
+    ensures gate { IfOk result (λ head. IsTrue D.tells → head.gate ≡ slice_index (D.held disk.old).seen at) }
+    ensures size { IfOk result (λ head. IsTrue D.tells
+        → head.size ≡ size_in (take 4 (drop (at + 1) (D.held disk.old).seen))) }
+    ensures spells { IfOk result (λ head. IsTrue D.tells
+        → size_bytes head.size ≡ take 4 (drop (at + 1) (D.held disk.old).seen)) }
     ensures kept { IsTrue D.tells → D.held disk.new ≡ D.held disk.old }
     ensures cause { HasCause (D.fault_count disk.old) (D.fault_count disk.new) result }
-    ensures in_range { IsTrue D.tells → at + 4 ≤ length (D.held disk.old).seen → D.strays disk.new ≡ D.strays disk.old }
+    ensures in_range { IsTrue D.tells → at + 5 ≤ length (D.held disk.old).seen → D.strays disk.new ≡ D.strays disk.old }
     ensures same { D.same disk.old disk.new }
 {
-    let mut bytes = [0; 4];
+    let mut bytes = [0; 5];
     disk.read_at(at, &mut bytes)?;
-    Ok(spelled_size(&bytes))
+    let [gate, a, b, c, d] = bytes;
+    Ok(Head {
+        gate,
+        size: spelled_size(&[a, b, c, d]),
+    })
 }
 
 fn spelled_size(bytes: &[u8; 4]) -> u32
@@ -65,15 +77,20 @@ fn spelled_size(bytes: &[u8; 4]) -> u32
     u32::from_be_bytes(*bytes)
 }
 
-// The place of the gate after the record of this open gate, in a file of this length. `Short` where that record
-// passes the end.
-fn next_gate<D: Disk>(disk: &mut D, gate: u64, len: u64) -> Result<u64, LoadStop>
+// The place of the gate behind the record of this gate, in a file of this length; `None` where this gate isn't open.
+// `Short` where that record passes the end. One read of the disk.
+fn next_gate<D: Disk>(disk: &mut D, gate: u64, len: u64) -> Result<Option<u64>, LoadStop>
     requires within { gate < len }
     requires long { IsTrue D.tells → len ≡ length (D.held disk.old).seen }
-    ensures within { IfOk result (λ next. next < len) }
-    ensures further { IfOk result (λ next. gate + 5 ≤ next) }
-    ensures near { IfOk result (λ next. next ≤ gate + 4294967300) }
-    ensures whole { IfOk result (λ next. IsTrue D.tells → IsWhole (D.held disk.old).seen gate next) }
+    ensures within { IfOk result (λ found. IfSome found (λ next. next < len)) }
+    ensures further { IfOk result (λ found. IfSome found (λ next. gate + 5 ≤ next)) }
+    ensures near { IfOk result (λ found. IfSome found (λ next. next ≤ gate + 4294967300)) }
+    ensures opened { IfOk result (λ found. IfSome found (λ _. IsTrue D.tells
+        → slice_index (D.held disk.old).seen gate ≡ 1)) }
+    ensures whole { IfOk result (λ found. IfSome found (λ next. IsTrue D.tells
+        → IsWhole (D.held disk.old).seen gate next)) }
+    ensures shut { IfOk result (λ found. found ≡ None → IsTrue D.tells
+        → slice_index (D.held disk.old).seen gate ≢ 1) }
     ensures stops { IfErr result (ExplainsCut
         (IsTrue D.tells) (D.held disk.old).seen gate
         (D.fault_count disk.old) (D.fault_count disk.new)) }
@@ -83,22 +100,28 @@ fn next_gate<D: Disk>(disk: &mut D, gate: u64, len: u64) -> Result<u64, LoadStop
     ensures strays { IsTrue D.tells → D.strays disk.new ≡ D.strays disk.old }
     ensures same { D.same disk.old disk.new }
 {
-    let left = len - gate - 1;
-    if left < 4 {
+    let left = len - gate;
+    if left < 5 {
+        if read_byte(disk, gate)? == OPEN {
+            return Err(LoadStop::Short(gate));
+        }
+        return Ok(None);
+    }
+    let head = read_head(disk, gate)?;
+    if head.gate != OPEN {
+        return Ok(None);
+    }
+    let size = u64::from(head.size);
+    if left - 5 <= size {
         return Err(LoadStop::Short(gate));
     }
-    let size = u64::from(read_size(disk, gate + 1)?);
-    if left - 4 <= size {
-        return Err(LoadStop::Short(gate));
-    }
-    Ok(gate + 5 + size)
+    Ok(Some(gate + 5 + size))
 }
 
-// The records of a file of this length whose first gate is open.
+// The records of a file of this length. `NoLog` where its first gate isn't open.
 fn walk<D: Disk>(alloc: Global, disk: &mut D, len: u64, buffer: Vec<u8>) -> Result<Found, LoadStop>
     requires six { 6 ≤ len }
     requires long { IsTrue D.tells → len ≡ length (D.held disk.old).seen }
-    requires opened { IsTrue D.tells → slice_index (D.held disk.old).seen 0 ≡ 1 }
     ensures finds { IfOk result (λ found. IsTrue D.tells
         → Finds (D.held disk.old).seen found.offsets.items found.gate found.rest) }
     ensures bound { IfOk result (λ found. found.gate ≤ vec_len found.offsets * 4294967300) }
@@ -115,17 +138,19 @@ fn walk<D: Disk>(alloc: Global, disk: &mut D, len: u64, buffer: Vec<u8>) -> Resu
     let mut offsets = Vec::new(alloc);
     let mut gate = 0;
     'records: loop {
-        let next = next_gate(disk, gate, len)?;
-        offsets.push(gate)?;
-        gate = next;
-        if read_byte(disk, gate)? != OPEN {
+        let Some(next) = next_gate(disk, gate, len)? else {
+            if offsets.is_empty() {
+                return Err(LoadStop::NoLog);
+            }
             return Ok(Found {
                 offsets,
                 gate,
                 rest: len - gate - 1,
                 buffer,
             });
-        }
+        };
+        offsets.push(gate)?;
+        gate = next;
     }
 }
 
@@ -149,7 +174,7 @@ pub fn find_records<D: Disk>(alloc: Global, disk: &mut D) -> Result<Found, LoadS
     let buffer = Vec::with_capacity(alloc, 5)?;
     disk.sync()?;
     let len = disk.len()?;
-    if len < 6 || read_byte(disk, 0)? != OPEN {
+    if len < 6 {
         return Err(LoadStop::NoLog);
     }
     walk(alloc, disk, len, buffer)

@@ -1,4 +1,4 @@
-use Rattle.std.proofs.Common.{◌≡◌, ◌<◌, ◌≤◌, ◌-◌, ◌*◌, IsTrue, slice_index, vec_len}
+use Rattle.std.proofs.Common.{◌≡◌, ◌<◌, ◌≤◌, ◌-◌, ◌*◌, IsTrue, vec_len}
 use Rattle.scitt_journal.proofs.Scans.{Scanned}
 use Rattle.scitt_journal.proofs.finding.walk.Given as goal
 
@@ -12,7 +12,6 @@ invariant-records g l =
       strays : IsTrue g.D.Disk.tells → g.D.Disk.strays l.disk ≡ g.D.Disk.strays l.fn.disk;
       same : g.D.Disk.same l.fn.disk l.disk;
       scanned : IsTrue g.D.Disk.tells → Scanned (g.D.Disk.held l.fn.disk).seen l.gate l.offsets.items;
-      opened : IsTrue g.D.Disk.tells → slice_index (g.D.Disk.held l.fn.disk).seen l.gate ≡ 1;
     }
 
 abbrev pub decreases-records : goal.decreases-records
