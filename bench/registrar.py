@@ -1,3 +1,4 @@
+"""The hashes and lengths of check_registrar, of keys, files and receipts, by the rules of docs/profile alone."""
 import hashlib,struct
 H=lambda b:hashlib.sha256(b).digest()
 u32=lambda n:struct.pack('>I',n);u16=lambda n:struct.pack('>H',n)
@@ -95,20 +96,44 @@ class Log:
 if __name__=='__main__':
     gov=Tree(b'\x12'*16,b'\x11'*32,1);iss=Tree(b'\x22'*16,b'\x21'*32,1);svc=Tree(b'\x09'*16,b'\x07'*32,1)
     G=["gov",b'\x01',gov.pub];A=["acme",b'\x02',iss.pub]
-    P=enc([1,1,[G],[A],[[100,1,[0]]]])
-    PT="application/vnd.scitt-policy+cbor"
-    g=st(gov,0,"gov","policy",PT,b'\1',P)
-    a=st(iss,0,"acme","pkg-0","text/plain",b'\2',b'\0')
-    L=Log(svc,"log",G,100,4)
+    PT="application/vnd.scitt-policy+cbor";M=1700000000
     d=lambda n,b:print(n,len(b),H(b).hex())
-    boot=enc([1,0,[G],[],[]])
-    d('boot',boot);d('keys',L.keys());d('policy statement',g);d('created',L.file())
-    L.add(1700000000,1,g);d('receipt0',L.receipt(0));d('cons1of1',L.cons(1));d('file1',L.file())
-    L.reload();L.add(1700000001,100,a);d('acme',a);d('receipt1',L.receipt(1));d('receipt0 again',L.receipt(0));d('cons1of2',L.cons(1));d('cons2of2',L.cons(2));d('file2',L.file())
+    policy=lambda version,condition:enc([1,version,[G],[A] if condition else [],[[100,1,condition]] if condition else []])
+    ruled=lambda q,payload:st(gov,q,"gov","policy",PT,b'\1',payload)
+    issued=lambda q,payload:st(iss,q,"acme","pkg-0","text/plain",b'\2',payload)
+    # the file of a log with these entries, each a moment, a rule and a statement; None stands for a stop
+    def left(maxe,block,*entries):
+        L=Log(svc,"log",G,maxe,block)
+        for e in entries:
+            if e is None:L.reload()
+            else:L.add(*e)
+        return L.file()
+    P=policy(1,[0]);g=ruled(0,P);a=issued(0,b'\0')
+    print('--- life')
+    L=Log(svc,"log",G,100,4)
+    d('boot',policy(0,None));d('keys',L.keys());d('policy statement',g);d('created',L.file())
+    L.add(M,1,g);d('receipt0',L.receipt(0));d('cons1of1',L.cons(1));d('file1',L.file())
+    L.reload();L.add(M+1,100,a);d('acme',a);d('receipt1',L.receipt(1));d('receipt0 again',L.receipt(0));d('cons1of2',L.cons(1));d('cons2of2',L.cons(2));d('file2',L.file())
     d('P',P);print('kept',svc.pub.hex());print('other',Tree(b'\x09'*16,b'\x08'*32,1).pub.hex())
     print('next',L.next)
-    print('--- full')
-    s2=st(gov,1,"gov","policy",PT,b'\1',enc([1,2,[G],[],[]]))
-    print('g',len(g),'a',len(a),'policy2',len(s2))
-    # row 21
-    print('sum g+a',len(g)+len(a))
+    print('--- openings')
+    d('no file',b'');d('begun',left(100,4))
+    print('--- rulings')
+    print('full: lengths',len(g),len(a),'one and two',len(g)+len(a),len(g)+2*len(a))
+    d('one',left(1,4,(M,1,g)))
+    d('two',left(2,4,(M,1,g),(M+1,100,a)))
+    d('policies',left(100,4,(1000,1,g),(1001,100,a),(1002,1,ruled(2,policy(2,None)))))
+    d('keys',left(100,4,(1000,1,g)))
+    d('counts',left(100,64,(1000,1,ruled(0,policy(1,[8,1]))),(1000,100,a)))
+    d('many',left(100,64,(1000,1,g),*[(1000,100,issued(q,bytes([q]))) for q in range(31)]))
+    print('--- faults')
+    r=ruled(0,policy(1,None))
+    d('made again',left(100,4,(1000,1,r)))
+    def spent(moment,s):
+        L=Log(svc,"log",G,100,4);L.rec.append(enc([1,4]));L.res=4;L.next=1;L.add(moment,1,s);return L.file()
+    d('index 1',spent(1000,r));d('another with index 1',spent(1001,g))
+    d('stop before the reserve',left(100,4,(1001,1,g)))
+    def reserved():
+        L=Log(svc,"log",G,100,4);L.rec.append(enc([1,4]));L.res=4;L.next=4;L.add(1001,1,g);return L.file()
+    d('stop behind the reserve',reserved())
+    d('stop behind the entry',left(100,4,(1000,1,r)))
