@@ -1,4 +1,4 @@
-"""The text of a session with the service, made by the rules of docs/profile alone: used by scripts.py for the hashes of check_script."""
+"""The text of a session with the service, made by the rules of docs/profile alone: the lengths and hashes of check_sessions; scripts.py uses it for those of check_script."""
 from registrar import Tree, Log, H, enc, st
 
 TYPES = {'cose': 'application/cose', 'cbor': 'application/cbor', 'problem': 'application/vnd.scitt-problem+cbor'}
@@ -86,3 +86,50 @@ if __name__ == '__main__':
     full = Log(svc, 'log', G, 1, 4)
     full.add(T, 1, genesis)
     show('full', answer(201, 'cose', full.receipt(0), 1, location=0) + problem('LogFull', 1, 0, 1, len(genesis) + len(acme)))
+    # policies follow each other: the second removes the issuer
+    turned = Log(svc, 'log', G, 100, 4)
+    empty = enc([1, 2, [G], [], []])
+    turned.add(T, 1, genesis)
+    text = answer(201, 'cose', turned.receipt(0), 1, location=0)
+    turned.add(T + 1, 1, st(gov, 1, 'gov', 'policy', PT, b'\1', empty))
+    text += answer(201, 'cose', turned.receipt(1), 2, location=1)
+    text += problem('Denied', 2, T + 2, 9) + problem('Denied', 2, T + 1, 4) + answer(200, 'cbor', empty, 2)
+    show('replaced', text)
+    # a key of 32 indices is spent
+    spent = Log(svc, 'log', G, 100, 4)
+    spent.add(T, 1, genesis)
+    text = answer(201, 'cose', spent.receipt(0), 1, location=0)
+    for i in range(31):
+        spent.add(T, 100, st(iss, i, 'acme', 'pkg-0', 'text/plain', b'\2', bytes([i])))
+        text += answer(201, 'cose', spent.receipt(i + 1), i + 2, location=i + 1)
+    show('spent', text + problem('KeyExhausted', 32, 0, 32, 32))
+    # the clock fails at its second call
+    timed = Log(svc, 'log', G, 100, 4)
+    timed.add(1000, 1, genesis)
+    text = answer(200, 'cbor', boot, 0) + answer(201, 'cose', timed.receipt(0), 1, location=0)
+    show('clock', text + answer(200, 'cose', timed.receipt(0), 1) + problem('ClockFault', 1))
+    # the disk fails in the first registration: before the entry, and in its record, which spends the index 0
+    for index in range(2):
+        failed = Log(svc, 'log', G, 100, 4)
+        failed.res = 4
+        failed.next = index
+        failed.add(1000, 1, genesis)
+        show('disk %d' % index, problem('DiskFault', 0) + answer(201, 'cose', failed.receipt(0), 1, location=0))
+    # the disk fails at one read of the first entry, for a statement, a receipt or a consistency receipt, or behind them
+    told = Log(svc, 'log', G, 100, 4)
+    told.add(1000, 1, genesis)
+    for failed in range(4):
+        answers = [answer(200, 'cose', body, 1) for body in (genesis, told.receipt(0), told.cons(1))]
+        answers[failed:failed + 1] = [problem('DiskFault', 1)] * (failed < 3)
+        show('reading %d' % failed, answer(201, 'cose', told.receipt(0), 1, location=0) + b''.join(answers))
+    # requests that are cut: nothing, the first answer, both
+    show('nothing', b'')
+    show('one', one)
+    show('both', one + problem('BadMethod', 0, allow='GET'))
+    # a link that fails at a write of the second answer's head or body, of the first one's body, or behind both
+    other = answer(200, 'cbor', boot, 0)
+    behind = one.index(b'\r\n\r\n') + 4
+    show('link 2', one[:behind])
+    show('link 3', one)
+    show('link 4', one + other[:-len(boot)])
+    show('link 5', one + other)
