@@ -1,0 +1,5 @@
+//! Tests of `generator`.
+#![tactic(auto)]
+
+#[cfg(test)]
+mod logs;

@@ -1,0 +1,6 @@
+pub mod Entries
+pub mod Rulings
+pub mod Adding
+pub mod Tallying
+pub mod Auditing
+pub mod Beginning

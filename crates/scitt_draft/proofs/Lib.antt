@@ -1,0 +1,3 @@
+pub mod Protected
+pub mod PolicyShape
+pub mod Stating
