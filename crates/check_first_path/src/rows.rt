@@ -158,7 +158,7 @@ fn takes_the_longest_string(rt: HostRuntime) -> Result<(), Fail> {
     Ok(())
 }
 
-// A file of 16,777,216 bytes is the longest.
+// A file of 16,777,216 bytes is the longest, but for `audit`.
 #[test]
 fn refuses_a_longer_file(rt: HostRuntime) -> Result<(), Fail> {
     let mut bytes = vec![in rt.alloc(); 0; 16_777_216]?;
@@ -169,5 +169,8 @@ fn refuses_a_longer_file(rt: HostRuntime) -> Result<(), Fail> {
     let (status, text) = run(rt.alloc(), &["root", "f"], &bytes)?;
     assert_eq!(rt; status, 8);
     assert_eq!(rt; text.as_slice(), b"too long 16777216\n".as_slice());
+    let (status, text) = run(rt.alloc(), &["audit", "f"], &bytes)?;
+    assert_eq!(rt; status, 1);
+    assert_eq!(rt; text.as_slice(), b"refused no log\n".as_slice());
     Ok(())
 }

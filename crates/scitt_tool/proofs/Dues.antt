@@ -6,7 +6,7 @@ use Rattle.scitt_disk.specs.Images.{Held}
 use Rattle.scitt_tool.specs.declared.stops.ToolStop.{ToolStop}
 use Rattle.scitt_tool.specs.declared.stops.ToolStop.TheVariants.{ReadFault, DiskFault, OutOfMemory}
 use Rattle.scitt_tool.specs.Answer.{Answer, words_refused, unread, too_long}
-use Rattle.scitt_tool.specs.Command.{Command, command_of, files_of, files_read}
+use Rattle.scitt_tool.specs.Command.{Command, command_of, files_of, files_read, limit_of}
 use Rattle.scitt_tool.specs.Outcome.{Outcome, Kept, plain, IsOver}
 use Rattle.scitt_tool.specs.Reads.{FileOf, TellsFiles, ReadAll, StopsAt, ByFiles}
 use Rattle.scitt_tool.specs.ToolText.{Judged, CommandText}
@@ -64,12 +64,12 @@ due_refused Tells outside words before now answer none held files random key is 
 
 -- a file is longer than its limit
 pub due_too_long : (Tells : Type 0) (outside : Outside) (words : List (List ℕ)) (command : Command) (contents : List (Option (List ℕ))) (before now : Counts) (answer : Answer) → command_of words ≡ Some command
-    → TellsFiles outside.files (files_of command) contents → files_of command ≢ [] → StopsAt contents → outside.new ≡ outside.old → now.files ≡ before.files → now.random ≡ before.random → now.key ≡ before.key → answer ≡ too_long
+    → TellsFiles outside.files (files_of command) contents → files_of command ≢ [] → StopsAt (limit_of command) contents → outside.new ≡ outside.old → now.files ≡ before.files → now.random ≡ before.random → now.key ≡ before.key → answer ≡ too_long (limit_of command)
     → IsDue Tells outside words before now answer
 due_too_long Tells outside words command contents before now answer some told there stop held files random key is =
     let found = some_random outside.random in
     let eight : answer.status ≡ 8 = ap (λ (a : Answer). a.status) is in
-    let long : plain too_long ≡ plain answer = ap plain (sym is) in
+    let long : plain (too_long (limit_of command)) ≡ plain answer = ap plain (sym is) in
     record {
       text = inl (record {
         contents = contents;
@@ -78,7 +78,7 @@ due_too_long Tells outside words command contents before now answer some told th
         random = found.0;
         told = found.1;
         after = Kept;
-        text = subst (λ (o : Option Command). CommandText Tells outside.old.seen found.0 o contents (plain answer)) (sym some) (subst (ByFiles (Judged Tells outside.old.seen found.0 command) contents) long (by_stop (Judged Tells outside.old.seen found.0 command) contents stop));
+        text = subst (λ (o : Option Command). CommandText Tells outside.old.seen found.0 o contents (plain answer)) (sym some) (subst (ByFiles (limit_of command) (Judged Tells outside.old.seen found.0 command) contents) long (by_stop (limit_of command) (Judged Tells outside.old.seen found.0 command) contents stop));
         key = λ _. ap (λ (h : Held). h.seen) held;
       });
       causes = calm before now answer.status files random key (λ e. absurd (omega (arith, e, eight))) (λ e. absurd (omega (arith, e, eight)));
@@ -89,12 +89,12 @@ module _ (Tells : Type 0) (outside : Outside) (words : List (List ℕ)) (command
   is_some_command = subst (λ (o : Option Command). IsSome o) (sym some) refl
 
   -- it was judged by the bytes of its files
-  due_ok : (contents : List (Option (List ℕ))) (read : List (List ℕ)) (answer : Answer) → TellsFiles outside.files (files_of command) contents → (files_of command ≡ [] → read ≡ []) → ReadAll contents read
+  due_ok : (contents : List (Option (List ℕ))) (read : List (List ℕ)) (answer : Answer) → TellsFiles outside.files (files_of command) contents → (files_of command ≡ [] → read ≡ []) → ReadAll (limit_of command) contents read
       → JudgedOver Tells outside.old outside.new outside.random command read answer → (answer.status ≤ 1) ⊎ (answer.status ≡ 7)
       → now.files ≡ before.files → now.random ≡ before.random → now.key ≡ before.key → IsDue Tells outside words before now answer
   due_ok contents read answer told none all over status files random key =
       let outcome : Outcome = record { answer = answer; key = over.after } in
-      let text = by_all (Judged Tells outside.old.seen over.random command) read outcome all.1 over.judged in
+      let text = by_all (limit_of command) (Judged Tells outside.old.seen over.random command) read outcome all.1 over.judged in
       let three : answer.status ≢ 3 = λ e. elim status as (λ _. ⊥) [ inl low ↦ absurd (omega (arith, e, low)) | inr high ↦ absurd (omega (arith, e, high)) ] in
       let six : answer.status ≢ 6 = λ e. elim status as (λ _. ⊥) [ inl low ↦ absurd (omega (arith, e, low)) | inr high ↦ absurd (omega (arith, e, high)) ] in
       record {
@@ -105,7 +105,7 @@ module _ (Tells : Type 0) (outside : Outside) (words : List (List ℕ)) (command
           random = over.random;
           told = over.told;
           after = over.after;
-          text = subst (λ (o : Option Command). CommandText Tells outside.old.seen over.random o contents outcome) (sym some) (subst (λ (c : List (Option (List ℕ))). ByFiles (Judged Tells outside.old.seen over.random command) c outcome) (sym all.0) text);
+          text = subst (λ (o : Option Command). CommandText Tells outside.old.seen over.random o contents outcome) (sym some) (subst (λ (c : List (Option (List ℕ))). ByFiles (limit_of command) (Judged Tells outside.old.seen over.random command) c outcome) (sym all.0) text);
           key = over.key;
         });
         causes = calm before now answer.status files random key three six;
@@ -120,7 +120,7 @@ module _ (Tells : Type 0) (outside : Outside) (words : List (List ℕ)) (command
         causes = record { unread = λ _. inl rose; read = λ other. absurd (other three); failed = λ e. absurd (omega (arith, e, three)); whole = λ _. key };
       }
 
-  pub due_judged : {E : Type 0} (contents : List (Option (List ℕ))) (read : List (List ℕ)) (judged : Result Answer ToolStop) (result : Result Answer E) → TellsFiles outside.files (files_of command) contents → (files_of command ≡ [] → read ≡ []) → ReadAll contents read
+  pub due_judged : {E : Type 0} (contents : List (Option (List ℕ))) (read : List (List ℕ)) (judged : Result Answer ToolStop) (result : Result Answer E) → TellsFiles outside.files (files_of command) contents → (files_of command ≡ [] → read ≡ []) → ReadAll (limit_of command) contents read
       → IfOk judged (JudgedOver Tells outside.old outside.new outside.random command read) → IfOk judged (λ answer. (answer.status ≤ 1) ⊎ (answer.status ≡ 7))
       → now.files ≡ before.files → CountsRandom before.random now.random judged → CountsKey before.key now.key judged → Stopped judged result → IfOk result (IsDue Tells outside words before now)
   due_judged {E = E} contents read (Ok answer) result told none all over status files random key stopped =

@@ -11,4 +11,6 @@ pub mod Keys
 pub mod Protected
 pub mod Signing
 pub mod OneText
+pub mod SomeAttach
+pub mod SomeSign
 pub mod SomeText

@@ -15,7 +15,9 @@ use Rattle.statement.specs.declared.statement_type.Statement.{Statement}
 use Rattle.statement.specs.declared.stops.ParseStop.{ParseStop}
 use Rattle.statement.specs.OneAnswer.{OneAnswer}
 use Rattle.scitt_tool.specs.Answer.{Answer, done, refused}
-use Rattle.scitt_tool.specs.Command.{Command, Root, Show, Policy, Audit, Replay, Keygen, Sign, Attach, Verify, Consistent, command_of}
+use Rattle.scitt_tool.specs.Command.{Command, Root, Show, Policy, Audit, Replay, Generate, Keygen, Sign, Attach, Verify, Consistent, command_of, limit_of}
+use Rattle.generator.specs.declared.generating.Summary.{Summary}
+use Rattle.scitt_tool.specs.Generate.{GenerateOf, summary_lines}
 use Rattle.scitt_tool.specs.Reads.{ByFiles}
 use Rattle.scitt_tool.specs.Outcome.{Outcome, Keyed, plain, IsKey}
 use Rattle.scitt_tool.specs.Attach.{AttachOf}
@@ -346,13 +348,22 @@ module _ (no_log : NoLogHasNoRecords) (short : ShortHasNoRecords) (short_at : Sh
       let same = one_key p.head q.head p.next q.next (p.file tt) (q.file tt) in
       one_signed q.head q.next a b (subst (λ (n : ℕ). SignedBy claims q.head n payload a) same.1 (subst (λ (h : KeyHead). SignedBy claims h p.next payload a) same.0 p.signed)) q.signed
 
-one_files : (J : List (List ℕ) → Outcome → Type 0) → ((read : List (List ℕ)) → OneOutcome (J read)) → (contents : List (Option (List ℕ))) → OneOutcome (ByFiles J contents)
-one_files J each [] a b p q = each [] a b p q
-one_files J each (None ∷ contents) a b p q = p ∙ sym q
-one_files J each (Some bytes ∷ contents) a b (inl (small, p)) (inl (little, q)) = one_files (λ more. J (bytes ∷ more)) (λ more. each (bytes ∷ more)) contents a b p q
-one_files J each (Some bytes ∷ contents) a b (inl (small, p)) (inr (long, q)) = absurd (omega (arith, small, long))
-one_files J each (Some bytes ∷ contents) a b (inr (long, p)) (inl (small, q)) = absurd (omega (arith, small, long))
-one_files J each (Some bytes ∷ contents) a b (inr (long, p)) (inr (large, q)) = p ∙ sym q
+one_generate : (count : ℕ) (a b : Answer) → GenerateOf count a → GenerateOf count b → a ≡ b
+one_generate count a b p q =
+    let admitted = p.told.admitted ∙ sym q.told.admitted in
+    let denied = p.told.denied ∙ sym q.told.denied in
+    let entries = p.told.entries ∙ sym q.told.entries in
+    let root = p.told.root ∙ sym q.told.root in
+    let same : p.summary ≡ q.summary = (λ i. record { admitted = admitted i; denied = denied i; entries = entries i; root = root i }) in
+    p.is ∙ ap (λ (s : Summary). done (summary_lines count s)) same ∙ sym q.is
+
+one_files : (limit : ℕ) (J : List (List ℕ) → Outcome → Type 0) → ((read : List (List ℕ)) → OneOutcome (J read)) → (contents : List (Option (List ℕ))) → OneOutcome (ByFiles limit J contents)
+one_files limit J each [] a b p q = each [] a b p q
+one_files limit J each (None ∷ contents) a b p q = p ∙ sym q
+one_files limit J each (Some bytes ∷ contents) a b (inl (small, p)) (inl (little, q)) = one_files limit (λ more. J (bytes ∷ more)) (λ more. each (bytes ∷ more)) contents a b p q
+one_files limit J each (Some bytes ∷ contents) a b (inl (small, p)) (inr (long, q)) = absurd (omega (arith, small, long))
+one_files limit J each (Some bytes ∷ contents) a b (inr (long, p)) (inl (small, q)) = absurd (omega (arith, small, long))
+one_files limit J each (Some bytes ∷ contents) a b (inr (long, p)) (inr (large, q)) = p ∙ sym q
 
 module _ (never : NeverBoth) (one_item : OneItem) (one_fault : OneWholeFault) (tags : TagStandsFirst) (one : OneAnswer) (document : OneDocument) (message : OneMessage) (spelling : OneStrictSpelling) (report : OneReport) (trust : OneTrust) (verdict : OneVerdict) (no_log : NoLogHasNoRecords) (short : ShortHasNoRecords) (short_at : ShortIsUnique) (records : RecordsAreUnique) where
   one_judged : (key random : List ℕ) (command : Command) → PlaysNothing (Some command) → (read : List (List ℕ)) → OneOutcome (Judged (Unit {0}) key random command read)
@@ -363,13 +374,14 @@ module _ (never : NeverBoth) (one_item : OneItem) (one_fault : OneWholeFault) (t
   one_judged key random (Verify _ _) other read = one_plain (VerifyOf (first read) (second read)) (one_verify trust verdict (first read) (second read))
   one_judged key random (Consistent _ _ size root) other read = one_plain (ConsistentOf (first read) (second read) size root) (one_consistent trust (first read) (second read) size root)
   one_judged key random (Replay file) other read = absurd other
+  one_judged key random (Generate count) other read = one_plain (GenerateOf count) (one_generate count)
   one_judged key random (Keygen levels) other read = one_keygen levels key random
   one_judged key random (Sign claims _) other read = one_sign no_log short short_at records spelling claims key (first read)
   one_judged key random (Attach statement receipt) other read = one_plain (AttachOf (first read) (second read)) (one_attach one message spelling (first read) (second read))
 
   one_command : (key random : List ℕ) (o : Option Command) → PlaysNothing o → (contents : List (Option (List ℕ))) → OneOutcome (CommandText (Unit {0}) key random o contents)
   one_command key random None other contents a b p q = p ∙ sym q
-  one_command key random (Some command) other contents a b p q = one_files (Judged (Unit {0}) key random command) (one_judged key random command other) contents a b p q
+  one_command key random (Some command) other contents a b p q = one_files (limit_of command) (Judged (Unit {0}) key random command) (one_judged key random command other) contents a b p q
 
   pub one_text : OneText
   one_text key random words contents a b other p q = one_command key random (command_of words) other contents a b p q

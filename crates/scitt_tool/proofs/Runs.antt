@@ -5,41 +5,41 @@ use Rattle.std.specs.declared.option.Option.{Option}
 use Rattle.std.specs.Io.KnownBytes.{Appends}
 use Rattle.scitt_io.specs.Causes.{Rose}
 use Rattle.scitt_tool.specs.Answer.{Answer, Says}
-use Rattle.scitt_tool.specs.Command.{Command, command_of, files_of, files_read}
+use Rattle.scitt_tool.specs.Command.{Command, command_of, files_of, files_read, limit_of}
 use Rattle.scitt_tool.specs.Outcome.{Outcome}
 use Rattle.scitt_tool.specs.Reads.{FileOf, TellsFiles, AllWithin, ByFiles, ReadAll, Finds}
 use Rattle.scitt_tool.specs.ToolText.{CommandText, Judged}
 use Rattle.scitt_tool.specs.Run.{Counts, Outside, NoneRose, JudgedOver, IsText, IsDue, Completes}
 
 -- files within the limit are judged by their bytes
-judged_by_all : (Judged : List (List ℕ) → Outcome → Type 0) (read : List (List ℕ)) (outcome : Outcome) → AllWithin read → ByFiles Judged (map Some read) outcome → Judged read outcome
-judged_by_all Judged [] outcome all by = by
-judged_by_all Judged (bytes ∷ read) outcome all (inl (short, by)) = judged_by_all (λ more. Judged (bytes ∷ more)) read outcome all.1 by
-judged_by_all Judged (bytes ∷ read) outcome all (inr (long, is)) = absurd (omega (arith, long, all.0))
+judged_by_all : (limit : ℕ) (Judged : List (List ℕ) → Outcome → Type 0) (read : List (List ℕ)) (outcome : Outcome) → AllWithin limit read → ByFiles limit Judged (map Some read) outcome → Judged read outcome
+judged_by_all limit Judged [] outcome all by = by
+judged_by_all limit Judged (bytes ∷ read) outcome all (inl (short, by)) = judged_by_all limit (λ more. Judged (bytes ∷ more)) read outcome all.1 by
+judged_by_all limit Judged (bytes ∷ read) outcome all (inr (long, is)) = absurd (omega (arith, long, all.0))
 
 -- the files that were found are those that were judged
-found_are : (told : Option FileOf) (names : List (List ℕ)) (contents : List (Option (List ℕ))) (read : List (List ℕ)) → (names ≡ [] → contents ≡ []) → TellsFiles told names contents → Finds told names read → ReadAll contents read
-found_are told [] contents read none tells found = (none refl ∙ ap (map Some) (sym found), subst AllWithin (sym found) tt)
-found_are None (name ∷ names) contents read none tells found = absurd found
-found_are (Some file_of) (name ∷ names) contents read none tells found = (sym tells ∙ found.0, found.1)
+found_are : (limit : ℕ) (told : Option FileOf) (names : List (List ℕ)) (contents : List (Option (List ℕ))) (read : List (List ℕ)) → (names ≡ [] → contents ≡ []) → TellsFiles told names contents → Finds limit told names read → ReadAll limit contents read
+found_are limit told [] contents read none tells found = (none refl ∙ ap (map Some) (sym found), subst (AllWithin limit) (sym found) tt)
+found_are limit None (name ∷ names) contents read none tells found = absurd found
+found_are limit (Some file_of) (name ∷ names) contents read none tells found = (sym tells ∙ found.0, found.1)
 
 module _ (Tells : Type 0) (outside : Outside) (words : List (List ℕ)) (command : Command) (read : List (List ℕ)) (answer : Answer)
-    (is : command_of words ≡ Some command) (found : Finds outside.files (files_of command) read) where
+    (is : command_of words ≡ Some command) (found : Finds (limit_of command) outside.files (files_of command) read) where
   text_judged : IsText Tells outside words answer → JudgedOver Tells outside.old outside.new outside.random command read answer
   text_judged text =
       let outcome : Outcome = record { answer = answer; key = text.after } in
       let tells : TellsFiles outside.files (files_of command) text.contents = subst (λ (o : Option Command). TellsFiles outside.files (files_read o) text.contents) is text.files in
       let none : files_of command ≡ [] → text.contents ≡ [] = subst (λ (o : Option Command). files_read o ≡ [] → text.contents ≡ []) is text.none in
-      let all : ReadAll text.contents read = found_are outside.files (files_of command) text.contents read none tells found in
-      let of_command : ByFiles (Judged Tells outside.old.seen text.random command) text.contents outcome =
+      let all : ReadAll (limit_of command) text.contents read = found_are (limit_of command) outside.files (files_of command) text.contents read none tells found in
+      let of_command : ByFiles (limit_of command) (Judged Tells outside.old.seen text.random command) text.contents outcome =
       subst (λ (o : Option Command). CommandText Tells outside.old.seen text.random o text.contents outcome) is text.text in
-      let by : ByFiles (Judged Tells outside.old.seen text.random command) (map Some read) outcome =
-      subst (λ (c : List (Option (List ℕ))). ByFiles (Judged Tells outside.old.seen text.random command) c outcome) all.0 of_command in
+      let by : ByFiles (limit_of command) (Judged Tells outside.old.seen text.random command) (map Some read) outcome =
+      subst (λ (c : List (Option (List ℕ))). ByFiles (limit_of command) (Judged Tells outside.old.seen text.random command) c outcome) all.0 of_command in
       record {
         random = text.random;
         told = text.told;
         after = text.after;
-        judged = judged_by_all (Judged Tells outside.old.seen text.random command) read outcome all.1 by;
+        judged = judged_by_all (limit_of command) (Judged Tells outside.old.seen text.random command) read outcome all.1 by;
         key = text.key;
       }
 

@@ -16,8 +16,8 @@ use Rattle.statement.specs.declared.statement_type.Statement.{Statement}
 use Rattle.statement.specs.declared.stops.ParseStop.{ParseStop}
 use Rattle.statement.specs.OneAnswer.{AnswerOf, SomeAnswer}
 use Rattle.scitt_tool.specs.Answer.{Answer, done, refused, words_refused, unread, too_long}
-use Rattle.scitt_tool.specs.Command.{Command, Root, Show, Policy, Audit, Replay, Keygen, Sign, Attach, Verify, Consistent, command_of}
-use Rattle.scitt_tool.specs.Reads.{limit, ByFiles}
+use Rattle.scitt_tool.specs.Command.{Command, Root, Show, Policy, Audit, Replay, Generate, Keygen, Sign, Attach, Verify, Consistent, command_of, limit_of}
+use Rattle.scitt_tool.specs.Reads.{ByFiles}
 use Rattle.scitt_tool.specs.FaultText.{fault_text}
 use Rattle.cose_sign1.specs.Tbs.{byte_item}
 use Rattle.scitt_tool.specs.Root.{root_lines, strings_item, RootOf}
@@ -40,7 +40,13 @@ use Rattle.relying_party.specs.OneAnswer.{AnswerOf as TrustAnswer, SomeAnswer as
 use Rattle.scitt_tool.specs.Outcome.{Outcome, Kept, Keyed, plain}
 use Rattle.scitt_tool.specs.Keygen.{KeygenOf, key_bytes, key_lines, public_of, head_from}
 use Rattle.lms_tree.specs.declared.types.Level.{Level}
-use Rattle.scitt_tool.specs.ToolText.{first, second, Plain, Judged, CommandText, AllBytes, MakesNoStatement, NoneIsMade, PlaysNothing, SomeText}
+use Rattle.scitt_tool.specs.ToolText.{first, second, Plain, Judged, CommandText, AllBytes, PlaysNothing, SomeText}
+use Rattle.scitt_tool.specs.Claims.{Claims}
+use Rattle.scitt_tool.specs.Attach.{AttachOf}
+use Rattle.scitt_tool.specs.Sign.{SignOf}
+use Rattle.generator.specs.declared.generating.Summary.{Summary}
+use Rattle.generator.specs.Tallies.{tally}
+use Rattle.scitt_tool.specs.Generate.{GenerateOf, summary_lines}
 
 abbrev Has : (Answer → Type 0) → Type 0
 Has P = (answer : Answer) × P answer
@@ -168,6 +174,11 @@ some_growth bytes receipt size root (Ok trust) p =
     (result_answer (consistency_result trust receipt size root), inr (record { trust = trust; trusted = p; result = consistency_result trust receipt size root; accepts = refl; is = refl }))
 some_growth bytes receipt size root (Err stop) p = (refused (codes "refused trust"), inl (record { stop = stop; first = p; is = refl }))
 
+some_generate : (count : ℕ) → Has (GenerateOf count)
+some_generate count =
+    let summary : Summary = record { admitted = (tally count).admitted; denied = (tally count).denied; entries = length (tally count).entries; root = mth (tally count).leaves } in
+    (done (summary_lines count summary), record { summary = summary; told = record { admitted = refl; denied = refl; entries = refl; root = refl }; is = refl })
+
 -- ---- outcomes
 
 abbrev HasOutcome : (Outcome → Type 0) → Type 0
@@ -206,31 +217,38 @@ second_bytes : (read : List (List ℕ)) → EachBytes read → IsBytes (second r
 second_bytes [] each = λ i. omega arith
 second_bytes (bytes ∷ more) each = first_bytes more each.1
 
-some_files : (J : List (List ℕ) → Outcome → Type 0) → ((read : List (List ℕ)) → EachBytes read → HasOutcome (J read)) → (contents : List (Option (List ℕ))) → AllBytes contents → HasOutcome (ByFiles J contents)
-some_files J each [] fits = each [] tt
-some_files J each (None ∷ contents) fits = (plain unread, refl)
-some_files J each (Some bytes ∷ contents) fits =
+some_files : (limit : ℕ) (J : List (List ℕ) → Outcome → Type 0) → ((read : List (List ℕ)) → EachBytes read → HasOutcome (J read)) → (contents : List (Option (List ℕ))) → AllBytes contents → HasOutcome (ByFiles limit J contents)
+some_files limit J each [] fits = each [] tt
+some_files limit J each (None ∷ contents) fits = (plain unread, refl)
+some_files limit J each (Some bytes ∷ contents) fits =
     elim (cases_lt limit (length bytes)) [
-      | inl long ↦ (plain too_long, inr (long, refl))
-      | inr within ↦ (let rest = some_files (λ more. J (bytes ∷ more)) (λ more all. each (bytes ∷ more) (fits.0, all)) contents fits.1 in (rest.0, inl (within, rest.1)))
+      | inl long ↦ (plain (too_long limit), inr (long, refl))
+      | inr within ↦ (let rest = some_files limit (λ more. J (bytes ∷ more)) (λ more all. each (bytes ∷ more) (fits.0, all)) contents fits.1 in (rest.0, inl (within, rest.1)))
     ]
 
-module _ (either : ItemOrFault) (some : SomeAnswer) (document : SomeDocument) (report : SomeReport) (trust : SomeTrust) (verdict : SomeVerdict) where
-  some_judged : (key random : List ℕ) (command : Command) → MakesNoStatement command → PlaysNothing (Some command) → (read : List (List ℕ)) → EachBytes read → HasOutcome (Judged (Unit {0}) key random command read)
-  some_judged key random (Root file) other plays read each = some_plain (RootOf (first read)) (some_root either (first read) (first_bytes read each))
-  some_judged key random (Show file) other plays read each = let found = some (first read) (first_bytes read each) in some_plain (ShowOf (first read)) (shown (first read) found.0 found.1)
-  some_judged key random (Policy file) other plays read each = let found = document (first read) (first_bytes read each) in some_plain (PolicyTextOf (first read)) (document_text (first read) found.0 found.1)
-  some_judged key random (Audit file) other plays read each = some_plain (AuditOf (first read)) (some_audit report (first read) (first_bytes read each))
-  some_judged key random (Verify _ _) other plays read each = let found = trust (first read) (first_bytes read each) in some_plain (VerifyOf (first read) (second read)) (some_verdict verdict (first read) (second read) (second_bytes read each) found.0 found.1)
-  some_judged key random (Consistent _ _ size root) other plays read each = let found = trust (first read) (first_bytes read each) in some_plain (ConsistentOf (first read) (second read) size root) (some_growth (first read) (second read) size root found.0 found.1)
-  some_judged key random (Replay file) other plays read each = absurd plays
-  some_judged key random (Keygen levels) other plays read each = some_keygen levels key random
-  some_judged key random (Attach statement receipt) other plays read each = absurd other
-  some_judged key random (Sign claims file) other plays read each = absurd other
+abbrev SomeAttach : Type 0
+SomeAttach = (bytes receipt : List ℕ) → IsBytes bytes → Has (AttachOf bytes receipt)
 
-  some_command : (key random : List ℕ) (o : Option Command) → NoneIsMade o → PlaysNothing o → (contents : List (Option (List ℕ))) → AllBytes contents → HasOutcome (CommandText (Unit {0}) key random o contents)
-  some_command key random None other plays contents fits = (plain words_refused, refl)
-  some_command key random (Some command) other plays contents fits = some_files (Judged (Unit {0}) key random command) (λ read each. some_judged key random command other plays read each) contents fits
+abbrev SomeSign : Type 0
+SomeSign = (claims : Claims) (key payload : List ℕ) → IsBytes key → HasOutcome (SignOf (Unit {0}) claims key payload)
+
+module _ (either : ItemOrFault) (some : SomeAnswer) (document : SomeDocument) (report : SomeReport) (trust : SomeTrust) (verdict : SomeVerdict) (attach : SomeAttach) (sign : SomeSign) where
+  some_judged : (key random : List ℕ) (command : Command) → PlaysNothing (Some command) → IsBytes key → (read : List (List ℕ)) → EachBytes read → HasOutcome (Judged (Unit {0}) key random command read)
+  some_judged key random (Root file) plays kept read each = some_plain (RootOf (first read)) (some_root either (first read) (first_bytes read each))
+  some_judged key random (Show file) plays kept read each = let found = some (first read) (first_bytes read each) in some_plain (ShowOf (first read)) (shown (first read) found.0 found.1)
+  some_judged key random (Policy file) plays kept read each = let found = document (first read) (first_bytes read each) in some_plain (PolicyTextOf (first read)) (document_text (first read) found.0 found.1)
+  some_judged key random (Audit file) plays kept read each = some_plain (AuditOf (first read)) (some_audit report (first read) (first_bytes read each))
+  some_judged key random (Verify _ _) plays kept read each = let found = trust (first read) (first_bytes read each) in some_plain (VerifyOf (first read) (second read)) (some_verdict verdict (first read) (second read) (second_bytes read each) found.0 found.1)
+  some_judged key random (Consistent _ _ size root) plays kept read each = let found = trust (first read) (first_bytes read each) in some_plain (ConsistentOf (first read) (second read) size root) (some_growth (first read) (second read) size root found.0 found.1)
+  some_judged key random (Replay file) plays kept read each = absurd plays
+  some_judged key random (Generate count) plays kept read each = some_plain (GenerateOf count) (some_generate count)
+  some_judged key random (Keygen levels) plays kept read each = some_keygen levels key random
+  some_judged key random (Attach _ _) plays kept read each = some_plain (AttachOf (first read) (second read)) (attach (first read) (second read) (first_bytes read each))
+  some_judged key random (Sign claims file) plays kept read each = sign claims key (first read) kept
+
+  some_command : (key random : List ℕ) (o : Option Command) → PlaysNothing o → IsBytes key → (contents : List (Option (List ℕ))) → AllBytes contents → HasOutcome (CommandText (Unit {0}) key random o contents)
+  some_command key random None plays kept contents fits = (plain words_refused, refl)
+  some_command key random (Some command) plays kept contents fits = some_files (limit_of command) (Judged (Unit {0}) key random command) (λ read each. some_judged key random command plays kept read each) contents fits
 
   pub some_text : SomeText
-  some_text key random words contents other plays fits = some_command key random (command_of words) other plays contents fits
+  some_text key random words contents plays kept fits = some_command key random (command_of words) plays kept contents fits

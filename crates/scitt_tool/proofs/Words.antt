@@ -1,9 +1,16 @@
--- Seven words.
+-- Two words, and seven.
 use Rattle.std.proofs.Common.{◌≡◌, ℕ, List, [], ◌∷◌, length, slice_get, Option, Some, arith}
-use Rattle.scitt_tool.specs.Command.{command_of, with_six}
+use Rattle.scitt_tool.specs.Command.{command_of, with_one, with_six}
 
 same : (s t : List ℕ) → ◌≡◌ {A = Option (List ℕ)} (Some s) (Some t) → s ≡ t
 same s t e = cc
+
+-- two words are a name and an argument
+pub two : (words : List (List ℕ)) (name argument : List ℕ) → length words ≡ 2 → slice_get words 0 ≡ Some name → slice_get words 1 ≡ Some argument → command_of words ≡ with_one name argument
+two [] name argument two_are p0 p1 = absurd (omega (arith, two_are))
+two (a ∷ []) name argument two_are p0 p1 = absurd (omega (arith, two_are))
+two (a ∷ b ∷ []) name argument two_are p0 p1 = λ i. with_one (same a name p0 i) (same b argument p1 i)
+two (a ∷ b ∷ c ∷ more) name argument two_are p0 p1 = absurd (omega (arith, two_are))
 
 -- seven words are a name and six arguments
 pub seven : (words : List (List ℕ)) (name iss sub type nbf exp file : List ℕ) → length words ≡ 7 → slice_get words 0 ≡ Some name → slice_get words 1 ≡ Some iss → slice_get words 2 ≡ Some sub

@@ -37,9 +37,9 @@ disk_fault = record { status = 6; text = line (codes "disk fault") }
 abbrev pub exhausted : ℕ → ℕ → Answer
 exhausted next capacity = record { status = 7; text = line (codes "exhausted " ++ decimal next ++ codes " " ++ decimal capacity) }
 
--- a chosen file is longer than its limit
-abbrev pub too_long : Answer
-too_long = record { status = 8; text = line (codes "too long 16777216") }
+-- a chosen file is longer than this limit
+abbrev pub too_long : ℕ → Answer
+too_long limit = record { status = 8; text = line (codes "too long " ++ decimal limit) }
 
 -- The answer's status after its whole text was written, or status 4 after a part of it, where the sink's count rose.
 pub record Says (answer : Answer) (old new : Option (List ℕ)) (before now : ℕ) (status : ℕ) : Type 0 where

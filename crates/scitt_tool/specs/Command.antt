@@ -5,6 +5,7 @@ use Rattle.lms_tree.specs.declared.types.Level.{Level}
 use Rattle.scitt_tool.specs.Claims.{Claims, claims_of}
 use Rattle.scitt_tool.specs.LevelNames.{levels_named}
 use Rattle.scitt_tool.specs.Consistent.{size_named, root_named}
+use Rattle.scitt_tool.specs.Generate.{count_named}
 
 pub data Command : Type 0 where
   Root : (file : List ℕ) → Command
@@ -12,6 +13,7 @@ pub data Command : Type 0 where
   Policy : (file : List ℕ) → Command
   Audit : (file : List ℕ) → Command
   Replay : (file : List ℕ) → Command
+  Generate : (count : ℕ) → Command
   Keygen : (levels : List Level) → Command
   Sign : (claims : Claims) → (file : List ℕ) → Command
   Attach : (statement : List ℕ) → (receipt : List ℕ) → Command
@@ -26,8 +28,9 @@ with_one name a =
     else (if bytes_eq name (codes "policy") then Some (Policy a)
     else (if bytes_eq name (codes "audit") then Some (Audit a)
     else (if bytes_eq name (codes "replay") then Some (Replay a)
+    else (if bytes_eq name (codes "generate") then option_map Generate (count_named a)
     else (if bytes_eq name (codes "keygen") then option_map Keygen (levels_named a)
-    else None)))))
+    else None))))))
 
 -- a name and two
 abbrev pub with_two : List ℕ → List ℕ → List ℕ → Option Command
@@ -64,11 +67,17 @@ files_of (Show file) = file ∷ []
 files_of (Policy file) = file ∷ []
 files_of (Audit file) = file ∷ []
 files_of (Replay file) = file ∷ []
+files_of (Generate count) = []
 files_of (Keygen levels) = []
 files_of (Sign claims file) = file ∷ []
 files_of (Attach statement receipt) = statement ∷ receipt ∷ []
 files_of (Verify trust statement) = trust ∷ statement ∷ []
 files_of (Consistent trust receipt size root) = trust ∷ receipt ∷ []
+
+-- how long each of them may be
+abbrev pub limit_of : Command → ℕ
+limit_of (Audit file) = 3221225472
+limit_of _ = 16777216
 
 -- the files that words read: none where they are no command
 abbrev pub files_read : Option Command → List (List ℕ)

@@ -16,6 +16,7 @@ pub mod LevelNames
 pub mod Outcome
 pub mod Attach
 pub mod Audit
+pub mod Generate
 pub mod Replay
 pub mod Verify
 pub mod Consistent

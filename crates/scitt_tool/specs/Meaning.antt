@@ -3,9 +3,9 @@ use Rattle.std.specs.Prelude.{ℕ, List, map}
 use Rattle.std.specs.Global.{Vec}
 use Rattle.scitt_tool.specs.declared.claims.Claims.{Claims as ReadClaims}
 use Rattle.scitt_tool.specs.declared.command.Command.{Command as Read}
-use Rattle.scitt_tool.specs.declared.command.Command.TheVariants.{Root as ReadRoot, Show as ReadShow, Policy as ReadPolicy, Audit as ReadAudit, Replay as ReadReplay, Keygen as ReadKeygen, Sign as ReadSign, Attach as ReadAttach, Verify as ReadVerify, Consistent as ReadConsistent}
+use Rattle.scitt_tool.specs.declared.command.Command.TheVariants.{Root as ReadRoot, Show as ReadShow, Policy as ReadPolicy, Audit as ReadAudit, Replay as ReadReplay, Generate as ReadGenerate, Keygen as ReadKeygen, Sign as ReadSign, Attach as ReadAttach, Verify as ReadVerify, Consistent as ReadConsistent}
 use Rattle.scitt_tool.specs.Claims.{Claims, claims_from}
-use Rattle.scitt_tool.specs.Command.{Command, Root, Show, Policy, Audit, Replay, Keygen, Sign, Attach, Verify, Consistent}
+use Rattle.scitt_tool.specs.Command.{Command, Root, Show, Policy, Audit, Replay, Generate, Keygen, Sign, Attach, Verify, Consistent}
 
 abbrev pub claimed : ReadClaims → Claims
 claimed c = claims_from c.issuer.now c.subject.now c.content_type.now c.not_before c.expires
@@ -16,6 +16,7 @@ meaning (ReadShow file) = Show file.now
 meaning (ReadPolicy file) = Policy file.now
 meaning (ReadAudit file) = Audit file.now
 meaning (ReadReplay file) = Replay file.now
+meaning (ReadGenerate count) = Generate count
 meaning (ReadKeygen levels) = Keygen levels
 meaning (ReadSign claims file) = Sign (claimed claims) file.now
 meaning (ReadAttach statement receipt) = Attach statement.now receipt.now

@@ -18,42 +18,38 @@ TellsFile told name content = IfSome told (λ file_of. file_of name ≡ content)
 abbrev pub TellsFiles : Option FileOf → List (List ℕ) → List (Option (List ℕ)) → Type 0
 TellsFiles told names contents = IfSome told (λ file_of. map file_of names ≡ contents)
 
--- how long a chosen file may be
-abbrev pub limit : ℕ
-limit = 16777216
-
--- the file's bytes within the limit, or it is longer; nothing is said of a refused read
-abbrev pub ReadOf : Option (List ℕ) → Result (Vec ℕ) ReadStop → Type 0
-ReadOf content (Ok bytes) = (content ≡ Some bytes.items) × (length bytes.items ≤ limit)
-ReadOf content (Err TooLong) = (bytes : List ℕ) × (content ≡ Some bytes) × (limit < length bytes)
-ReadOf content (Err ReadFault) = Unit {0}
-ReadOf content (Err OutOfMemory) = Unit {0}
+-- the file's bytes within this limit, or it is longer; nothing is said of a refused read
+abbrev pub ReadOf : ℕ → Option (List ℕ) → Result (Vec ℕ) ReadStop → Type 0
+ReadOf limit content (Ok bytes) = (content ≡ Some bytes.items) × (length bytes.items ≤ limit)
+ReadOf limit content (Err TooLong) = (bytes : List ℕ) × (content ≡ Some bytes) × (limit < length bytes)
+ReadOf limit content (Err ReadFault) = Unit {0}
+ReadOf limit content (Err OutOfMemory) = Unit {0}
 
 -- each of these is within the limit
-abbrev pub AllWithin : List (List ℕ) → Type 0
-AllWithin [] = Unit {0}
-AllWithin (bytes ∷ more) = (length bytes ≤ limit) × AllWithin more
+abbrev pub AllWithin : ℕ → List (List ℕ) → Type 0
+AllWithin limit [] = Unit {0}
+AllWithin limit (bytes ∷ more) = (length bytes ≤ limit) × AllWithin limit more
 
 -- An outcome by the contents of files in their order: the first that is missing can't be read, the first that is longer than the limit
 -- ends it, and where neither comes it is by the bytes of all.
-abbrev pub ByFiles : (List (List ℕ) → Outcome → Type 0) → List (Option (List ℕ)) → Outcome → Type 0
-ByFiles Judged [] outcome = Judged [] outcome
-ByFiles Judged (None ∷ contents) outcome = outcome ≡ plain unread
-ByFiles Judged (Some bytes ∷ contents) outcome =
-    ((length bytes ≤ limit) × ByFiles (λ read. Judged (bytes ∷ read)) contents outcome) ⊎ ((limit < length bytes) × (outcome ≡ plain too_long))
+abbrev pub ByFiles : ℕ → (List (List ℕ) → Outcome → Type 0) → List (Option (List ℕ)) → Outcome → Type 0
+ByFiles limit Judged [] outcome = Judged [] outcome
+ByFiles limit Judged (None ∷ contents) outcome = outcome ≡ plain unread
+ByFiles limit Judged (Some bytes ∷ contents) outcome =
+    ((length bytes ≤ limit) × ByFiles limit (λ read. Judged (bytes ∷ read)) contents outcome) ⊎ ((limit < length bytes) × (outcome ≡ plain (too_long limit)))
 
 -- the files were read, each within the limit
-abbrev pub ReadAll : List (Option (List ℕ)) → List (List ℕ) → Type 0
-ReadAll contents read = (contents ≡ map Some read) × AllWithin read
+abbrev pub ReadAll : ℕ → List (Option (List ℕ)) → List (List ℕ) → Type 0
+ReadAll limit contents read = (contents ≡ map Some read) × AllWithin limit read
 
 -- these files have these bytes, each within the limit: the files are told, or there are none of them
-abbrev pub Finds : Option FileOf → List (List ℕ) → List (List ℕ) → Type 0
-Finds told [] read = read ≡ []
-Finds None (name ∷ names) read = ⊥
-Finds (Some file_of) (name ∷ names) read = ReadAll (map file_of (name ∷ names)) read
+abbrev pub Finds : ℕ → Option FileOf → List (List ℕ) → List (List ℕ) → Type 0
+Finds limit told [] read = read ≡ []
+Finds limit None (name ∷ names) read = ⊥
+Finds limit (Some file_of) (name ∷ names) read = ReadAll limit (map file_of (name ∷ names)) read
 
 -- the first that isn't within the limit is longer
-abbrev pub StopsAt : List (Option (List ℕ)) → Type 0
-StopsAt [] = ⊥
-StopsAt (None ∷ contents) = ⊥
-StopsAt (Some bytes ∷ contents) = ((length bytes ≤ limit) × StopsAt contents) ⊎ (limit < length bytes)
+abbrev pub StopsAt : ℕ → List (Option (List ℕ)) → Type 0
+StopsAt limit [] = ⊥
+StopsAt limit (None ∷ contents) = ⊥
+StopsAt limit (Some bytes ∷ contents) = ((length bytes ≤ limit) × StopsAt limit contents) ⊎ (limit < length bytes)

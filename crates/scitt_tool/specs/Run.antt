@@ -5,7 +5,7 @@ use Rattle.std.specs.Io.KnownBytes.{Appends}
 use Rattle.scitt_io.specs.Causes.{Rose}
 use Rattle.scitt_disk.specs.Images.{Held}
 use Rattle.scitt_tool.specs.Answer.{Answer, Says, unread, disk_fault}
-use Rattle.scitt_tool.specs.Command.{Command, command_of, files_of, files_read}
+use Rattle.scitt_tool.specs.Command.{Command, command_of, files_of, files_read, limit_of}
 use Rattle.scitt_tool.specs.Outcome.{KeyAfter, KeyIs}
 use Rattle.scitt_tool.specs.Reads.{FileOf, TellsFiles, Finds}
 use Rattle.scitt_tool.specs.ToolText.{Judged, ToolText}
@@ -69,10 +69,10 @@ pub record Answers (Tells : Type 0) (outside : Outside) (words : List (List ℕ)
 abbrev pub NoneRose : Counts → Counts → Type 0
 NoneRose before now = (¬ Rose before.files now.files) × (¬ Rose before.random now.random) × (¬ Rose before.key now.key)
 
--- A command whose files, if it has any, are told, each of them there and within the limit, where no count rises: the status and the text
+-- A command whose files, if it has any, are told, each of them there and within its limit, where no count rises: the status and the text
 -- are by the bytes alone (those of the files, of the key file and of the random source), unless memory is wanting.
 abbrev pub Completes : Type 0 → Outside → List (List ℕ) → Counts → Counts → Option (List ℕ) → Option (List ℕ) → ℕ → ℕ → ℕ → Type 0
 Completes Tells outside words before now old new out_before out_now status =
-    (command : Command) (read : List (List ℕ)) → command_of words ≡ Some command → Finds outside.files (files_of command) read
+    (command : Command) (read : List (List ℕ)) → command_of words ≡ Some command → Finds (limit_of command) outside.files (files_of command) read
     → NoneRose before now → ¬ Rose out_before out_now
     → (status ≡ 5) ⊎ ((answer : Answer) × JudgedOver Tells outside.old outside.new outside.random command read answer × (status ≡ answer.status) × Appends old new answer.text)

@@ -2,7 +2,7 @@
 use Rattle.std.specs.Prelude.{◌≡◌, ℕ, List, [], ◌∷◌, Option, Some, None}
 use Rattle.cbor_core.specs.Bytes.{IsBytes}
 use Rattle.scitt_tool.specs.Answer.{Answer, words_refused}
-use Rattle.scitt_tool.specs.Command.{Command, Root, Show, Policy, Audit, Replay, Keygen, Sign, Attach, Verify, Consistent, command_of}
+use Rattle.scitt_tool.specs.Command.{Command, Root, Show, Policy, Audit, Replay, Generate, Keygen, Sign, Attach, Verify, Consistent, command_of, limit_of}
 use Rattle.scitt_tool.specs.Outcome.{Outcome, Kept, plain}
 use Rattle.scitt_tool.specs.Reads.{ByFiles}
 use Rattle.scitt_tool.specs.Root.{RootOf}
@@ -10,6 +10,7 @@ use Rattle.scitt_tool.specs.Show.{ShowOf}
 use Rattle.scitt_tool.specs.Policy.{PolicyTextOf}
 use Rattle.scitt_tool.specs.Audit.{AuditOf}
 use Rattle.scitt_tool.specs.Replay.{ReplayTextOf}
+use Rattle.scitt_tool.specs.Generate.{GenerateOf}
 use Rattle.scitt_tool.specs.Attach.{AttachOf}
 use Rattle.scitt_tool.specs.Verify.{VerifyOf}
 use Rattle.scitt_tool.specs.Consistent.{ConsistentOf}
@@ -36,6 +37,7 @@ Judged Tells key random (Show file) read = Plain (ShowOf (first read))
 Judged Tells key random (Policy file) read = Plain (PolicyTextOf (first read))
 Judged Tells key random (Audit file) read = Plain (AuditOf (first read))
 Judged Tells key random (Replay file) read = Plain (ReplayTextOf (first read))
+Judged Tells key random (Generate count) read = Plain (GenerateOf count)
 Judged Tells key random (Attach statement receipt) read = Plain (AttachOf (first read) (second read))
 Judged Tells key random (Verify trust statement) read = Plain (VerifyOf (first read) (second read))
 Judged Tells key random (Consistent trust receipt size root) read = Plain (ConsistentOf (first read) (second read) size root)
@@ -44,7 +46,7 @@ Judged Tells key random (Sign claims file) read = SignOf Tells claims key (first
 
 abbrev pub CommandText : Type 0 → List ℕ → List ℕ → Option Command → List (Option (List ℕ)) → Outcome → Type 0
 CommandText Tells key random None contents outcome = outcome ≡ plain words_refused
-CommandText Tells key random (Some command) contents outcome = ByFiles (Judged Tells key random command) contents outcome
+CommandText Tells key random (Some command) contents outcome = ByFiles (limit_of command) (Judged Tells key random command) contents outcome
 
 -- the same of words; the contents are those of the files that the words name, in their order
 abbrev pub ToolText : Type 0 → List ℕ → List ℕ → List (List ℕ) → List (Option (List ℕ)) → Outcome → Type 0
@@ -56,28 +58,18 @@ AllBytes [] = Unit {0}
 AllBytes (None ∷ contents) = AllBytes contents
 AllBytes (Some bytes ∷ contents) = IsBytes bytes × AllBytes contents
 
--- a command is another than `attach` and `sign`, whose outcome hangs on whether the statement that they make has strict bytes
-abbrev pub MakesNoStatement : Command → Type 0
-MakesNoStatement (Attach statement receipt) = ⊥
-MakesNoStatement (Sign claims file) = ⊥
-MakesNoStatement _ = Unit {0}
-
-abbrev pub NoneIsMade : Option Command → Type 0
-NoneIsMade None = Unit {0}
-NoneIsMade (Some command) = MakesNoStatement command
-
 -- a command is another than `replay`, in whose session a request may be answered that memory is wanting, as the other commands answer it of
 -- the whole run
 abbrev pub PlaysNothing : Option Command → Type 0
 PlaysNothing (Some (Replay file)) = ⊥
 PlaysNothing _ = Unit {0}
 
--- words, contents of files, a key file and random bytes call for an outcome, where the command is another than `attach`, `sign` and `replay`
+-- words, contents of files, a key file and random bytes call for an outcome, where the command is another than `replay`
 abbrev pub SomeText : Type 0
-SomeText = (key random : List ℕ) (words : List (List ℕ)) (contents : List (Option (List ℕ))) → NoneIsMade (command_of words) → PlaysNothing (command_of words) → AllBytes contents
+SomeText = (key random : List ℕ) (words : List (List ℕ)) (contents : List (Option (List ℕ))) → PlaysNothing (command_of words) → IsBytes key → AllBytes contents
     → (outcome : Outcome) × ToolText (Unit {0}) key random words contents outcome
 
--- and for no two, where it is another than `replay`
+-- and for no two
 abbrev pub OneText : Type 0
 OneText = (key random : List ℕ) (words : List (List ℕ)) (contents : List (Option (List ℕ))) (a b : Outcome) → PlaysNothing (command_of words)
     → ToolText (Unit {0}) key random words contents a → ToolText (Unit {0}) key random words contents b → a ≡ b

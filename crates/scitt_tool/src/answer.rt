@@ -1,6 +1,9 @@
 ghost use Rattle.std.specs.Prelude.{◌≡◌, ◌≤◌, ℕ, List, is_some};
 ghost use Rattle.scitt_tool.specs.Answer.{Says, words_refused, unread, too_long, disk_fault};
+ghost use Rattle.scitt_tool.specs.Command.{limit_of};
+ghost use Rattle.scitt_tool.specs.Meaning.{meaning};
 
+use crate::command::Command;
 use cbor_core::Bytes;
 use scitt_io::{Sink, write_all};
 use std::marker::Model;
@@ -94,11 +97,14 @@ pub(crate) fn unread() -> Answer
     Answer::fixed(3, "read fault\n")
 }
 
-/// A chosen file is longer than its limit.
-pub(crate) fn too_long() -> Answer
-    ensures { result ≡ too_long }
+/// A file that the command reads is longer than its limit.
+pub(crate) fn too_long(command: &Command<'_>) -> Answer
+    ensures { result ≡ too_long (limit_of (meaning command.now)) }
 {
-    Answer::fixed(8, "too long 16777216\n")
+    match command {
+        Command::Audit { .. } => Answer::fixed(8, "too long 3221225472\n"),
+        _ => Answer::fixed(8, "too long 16777216\n"),
+    }
 }
 
 /// A call of the key file's disk failed.

@@ -5,6 +5,7 @@ ghost use Rattle.scitt_tool.specs.Meaning.{meaning};
 
 use crate::claims::{Claims, claims_of};
 use crate::consistent::{root_named, size_named};
+use crate::generate::{Count, count_named};
 use crate::levels::levels_named;
 use hss_keys::Levels;
 use merkle_tree::Hash;
@@ -32,6 +33,10 @@ pub(crate) enum Command<'a> {
     /// `replay FILE`
     Replay {
         file: &'a str,
+    },
+    /// `generate N`
+    Generate {
+        count: Count,
     },
     /// `keygen LEVELS`
     Keygen {
@@ -61,7 +66,22 @@ pub(crate) enum Command<'a> {
     },
 }
 
+/// How long a file of a command may be, in bytes, and that of `audit`.
+const LIMIT: u64 = 16_777_216;
+
+const LOG_LIMIT: u64 = 3_221_225_472;
+
 impl Command<'_> {
+    /// How long each file that the command reads may be, in bytes.
+    pub fn limit(&self) -> u64
+        ensures { result ≡ said.limit_of (meaning self.now) }
+    {
+        match self {
+            Command::Audit { .. } => LOG_LIMIT,
+            _ => LIMIT,
+        }
+    }
+
     /// The file that the command reads at this place in the order of its words, counted from 0.
     pub fn file(&self, place: usize) -> Option<&str>
         ensures { option_copied result ≡ slice_get (said.files_of (meaning self.now)) place }
@@ -73,7 +93,7 @@ impl Command<'_> {
             | Command::Audit { file }
             | Command::Replay { file }
             | Command::Sign { file, .. } => first(place, file),
-            Command::Keygen { .. } => None,
+            Command::Generate { .. } | Command::Keygen { .. } => None,
             Command::Attach { statement, receipt } => either(place, statement, receipt),
             Command::Verify { trust, statement } => either(place, trust, statement),
             Command::Consistent { trust, receipt, .. } => either(place, trust, receipt),
@@ -109,6 +129,10 @@ fn with_one<'a>(name: &str, word: &'a str) -> Option<Command<'a>>
         "policy" => Some(Command::Policy { file: word }),
         "audit" => Some(Command::Audit { file: word }),
         "replay" => Some(Command::Replay { file: word }),
+        "generate" => {
+            let count = count_named(word)?;
+            Some(Command::Generate { count })
+        }
         "keygen" => {
             let levels = levels_named(word)?;
             Some(Command::Keygen { levels })

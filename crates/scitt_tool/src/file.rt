@@ -1,7 +1,7 @@
 ghost use Rattle.std.specs.Prelude.{◌≡◌, ◌≢◌, ◌≤◌, ◌⊎◌, ◌+◌, ℕ, List, [], ◌∷◌, ◌++◌, length, take, map, Option, IfOk, IfErr, IsErrOf, OnOk, is_some};
 ghost use Rattle.std.specs.Io.KnownBytes.{IsAtEnd};
 ghost use Rattle.scitt_io.specs.Causes.{Rose};
-ghost use Rattle.scitt_tool.specs.Command.{files_of};
+ghost use Rattle.scitt_tool.specs.Command.{files_of, limit_of};
 ghost use Rattle.scitt_tool.specs.Meaning.{meaning, all_read};
 ghost use Rattle.scitt_tool.specs.Reads.{TellsFile, TellsFiles, ReadOf, ReadAll, StopsAt};
 ghost use Rattle.scitt_tool.specs.Asking.{AsksFront};
@@ -10,12 +10,14 @@ use crate::command::Command;
 use scitt_io::{Folder, ReadStop, read_to_end};
 use std::alloc::Global;
 
-/// How long a chosen file may be, in bytes.
-const LIMIT: u64 = 16_777_216;
-
-/// The whole of the named file.
-fn read_file<F: Folder>(alloc: Global, files: &mut F, name: &str) -> Result<Vec<u8>, ReadStop>
-    ensures reads { (content : Option (List ℕ)) × TellsFile (F.files files.old) name.now content × ReadOf content result }
+/// The whole of the named file, of at most so many bytes.
+fn read_file<F: Folder>(
+    alloc: Global,
+    files: &mut F,
+    name: &str,
+    limit: u64,
+) -> Result<Vec<u8>, ReadStop>
+    ensures reads { (content : Option (List ℕ)) × TellsFile (F.files files.old) name.now content × ReadOf limit content result }
     ensures end { OnOk result (IsAtEnd (F.left files.new)) }
     ensures fault { IsErrOf result ReadStop.ReadFault → Rose (F.faults files.old) (F.faults files.new) }
     ensures no_fault { (IsErrOf result ReadStop.ReadFault → ⊥) → F.faults files.new ≡ F.faults files.old }
@@ -25,7 +27,7 @@ fn read_file<F: Folder>(alloc: Global, files: &mut F, name: &str) -> Result<Vec<
     ensures asked { F.asked files.new ≡ F.asked files.old ++ name.now ∷ [] }
 {
     files.choose(name)?;
-    read_to_end(alloc, files, LIMIT)
+    read_to_end(alloc, files, limit)
 }
 
 /// The whole of each of the command's files, in the order of the words. The first that can't be read, or that is longer than the
@@ -36,9 +38,9 @@ pub(crate) fn read_files<F: Folder>(
     command: &Command<'_>,
 ) -> Result<Vec<Vec<u8>>, ReadStop>
     ensures reads { IfOk result (λ read. (contents : List (Option (List ℕ)))
-        × TellsFiles (F.files files.old) (files_of (meaning command.now)) contents × ReadAll contents (all_read read.items)) }
+        × TellsFiles (F.files files.old) (files_of (meaning command.now)) contents × ReadAll (limit_of (meaning command.now)) contents (all_read read.items)) }
     ensures stops { IsErrOf result ReadStop.TooLong → (contents : List (Option (List ℕ)))
-        × TellsFiles (F.files files.old) (files_of (meaning command.now)) contents × StopsAt contents }
+        × TellsFiles (F.files files.old) (files_of (meaning command.now)) contents × StopsAt (limit_of (meaning command.now)) contents }
     ensures none { IfOk result (λ read. files_of (meaning command.now) ≡ [] → read.items ≡ []) }
     ensures some { IsErrOf result ReadStop.TooLong → files_of (meaning command.now) ≢ [] }
     ensures end { OnOk result ((files_of (meaning command.now) ≡ []) ⊎ IsAtEnd (F.left files.new)) }
@@ -52,7 +54,7 @@ pub(crate) fn read_files<F: Folder>(
 {
     let mut read = Vec::new(alloc);
     while let Some(name) = command.file(read.len()) {
-        let bytes = read_file(alloc, files, name)?;
+        let bytes = read_file(alloc, files, name, command.limit())?;
         let Ok(()) = read.push(bytes) else {
             return Err(ReadStop::OutOfMemory);
         };

@@ -11,6 +11,7 @@ mod draft;
 mod ended;
 mod fault;
 mod file;
+mod generate;
 mod keygen;
 mod laws;
 mod levels;

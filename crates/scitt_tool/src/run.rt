@@ -14,6 +14,7 @@ use crate::audit::audit;
 use crate::command::{Command, command_of};
 use crate::consistent::consistent;
 use crate::file::read_files;
+use crate::generate::generate;
 use crate::keygen::keygen;
 use crate::policy::policy;
 use crate::replay::replay;
@@ -41,7 +42,7 @@ const NO_MEMORY: Status = 5;
 /// | 5 | want of memory | none |
 /// | 6 | the key file's disk failed | `disk fault` |
 /// | 7 | no index of the key is left | `exhausted N N`, the next index and how many there are |
-/// | 8 | a chosen file is longer than 16,777,216 bytes | `too long 16777216` |
+/// | 8 | a chosen file is longer than 16,777,216 bytes, that of `audit` than 3,221,225,472 | `too long N`, this limit |
 pub fn run_tool<F: Folder, D: Disk, S: Source, K: Sink>(
     alloc: Global,
     words: &Words,
@@ -127,7 +128,7 @@ fn answer<F: Folder, D: Disk, S: Source>(
     };
     match read_files(alloc, files, &command) {
         Ok(read) => stopped(judge(alloc, &command, &read, key, random)),
-        Err(ReadStop::TooLong) => Ok(too_long()),
+        Err(ReadStop::TooLong) => Ok(too_long(&command)),
         Err(ReadStop::ReadFault) => Ok(unread()),
         Err(ReadStop::OutOfMemory) => Err(AllocError),
     }
@@ -188,6 +189,7 @@ fn judge<D: Disk, S: Source>(
         Command::Policy { .. } => Ok(policy(alloc, first(read))?),
         Command::Audit { .. } => Ok(audit(alloc, first(read))?),
         Command::Replay { .. } => Ok(replay(alloc, first(read))?),
+        Command::Generate { count } => Ok(generate(alloc, count)?),
         Command::Attach { .. } => Ok(attach(alloc, first(read), second(read))?),
         Command::Verify { .. } => Ok(verify(alloc, first(read), second(read))?),
         Command::Consistent { size, root, .. } => {

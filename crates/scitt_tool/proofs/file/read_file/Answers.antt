@@ -10,4 +10,4 @@ returns-in_err-choose-clause-reads g c =
 
 pub returns-clause-reads : goal.returns-clause-reads
 returns-clause-reads g c =
-    read_chosen _ _ _ _ _ c.in_ok-choose.ensures.chosen c.read_to_end.ensures.takes c.read_to_end.ensures.all
+    read_chosen c.args.limit _ _ _ _ _ c.in_ok-choose.ensures.chosen c.read_to_end.ensures.takes c.read_to_end.ensures.all

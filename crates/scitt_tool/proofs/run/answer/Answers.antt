@@ -1,6 +1,7 @@
 use Rattle.std.proofs.Common.{ℕ, Err, List, refl, sym, ap, ◌∙◌, subst}
 use Rattle.std.specs.Global.{Vec}
 use Rattle.scitt_tool.specs.Meaning.{meaning, all_read}
+use Rattle.scitt_tool.specs.Command.{limit_of}
 use Rattle.scitt_tool.specs.Reads.{ReadAll}
 use Rattle.scitt_tool.proofs.Dues.{due_refused, due_too_long, due_judged}
 use Rattle.scitt_tool.proofs.run.answer.Goals as goal
@@ -14,7 +15,7 @@ returns-in-Ok-clause-due g c =
     let reads = c.in-Ok.ensures.reads in
     due_judged _ _ c.args.words.now (meaning c.in-Some.command) _ _ (sym c.in-Some.ensures) reads.0 (all_read c.deref.result.now) c.judge.result c.stopped.result reads.1
     (λ empty. ap all_read (c.deref.ensures.value ∙ c.in-Ok.ensures.none empty))
-    (subst (λ (items : List (Vec ℕ)). ReadAll reads.0 (all_read items)) (sym c.deref.ensures.value) reads.2) c.judge.ensures.judged c.judge.ensures.status (c.in-Ok.ensures.no_fault (λ e. cc))
+    (subst (λ (items : List (Vec ℕ)). ReadAll (limit_of (meaning c.in-Some.command)) reads.0 (all_read items)) (sym c.deref.ensures.value) reads.2) c.judge.ensures.judged c.judge.ensures.status (c.in-Ok.ensures.no_fault (λ e. cc))
     c.judge.ensures.random_counts c.judge.ensures.key_counts c.stopped.ensures
 
 pub returns-in-Err-TooLong-clause-due : goal.returns-in-Err-TooLong-clause-due

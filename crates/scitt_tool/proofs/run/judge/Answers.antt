@@ -23,6 +23,10 @@ pub returns-in_ok-replay-in-Replay-clause-judged : goal.returns-in_ok-replay-in-
 returns-in_ok-replay-in-Replay-clause-judged g c =
     rw c.in-Replay.is (plain_over _ _ _ _ _ _ (λ key random. (rw c.first-in-Replay.ensures at c.in_ok-replay-in-Replay.ensures.text, refl)))
 
+pub returns-in_ok-generate-in-Generate-clause-judged : goal.returns-in_ok-generate-in-Generate-clause-judged
+returns-in_ok-generate-in-Generate-clause-judged g c =
+    rw c.in-Generate.is (plain_over _ _ _ _ _ _ (λ key random. (c.in_ok-generate-in-Generate.ensures, refl)))
+
 pub returns-in_ok-attach-in-Attach-clause-judged :
     goal.returns-in_ok-attach-in-Attach-clause-judged
 returns-in_ok-attach-in-Attach-clause-judged g c =
