@@ -2,9 +2,10 @@
 
 Each shape is made twice: as it is meant to be slow, and with the keys of each map rising, which `scitt root` reads strictly. Both are timed,
 processor time, the least of three runs of each in turn. A grid of shapes is tried first and then variations of the worst that were found, for
-so many seconds (300 without a word). The table has the twenty that took `show` longest, and then the ten of the greatest ratio that took more
-than 50 ms. Into a folder that is named the inputs of these rows are written, each as NUMBER.wide and NUMBER.strict. It starts the built
-program itself (`./run scitt` builds it), or the one that is named, which takes the words `show FILE` and `root FILE`.
+so many seconds (600 without a word); a line for each goes to standard error. The table has the twenty that took `show` longest, and then the
+ten of the greatest ratio that took more than 50 ms. Into a folder that is named the inputs of these rows are written, each as NUMBER.wide and
+NUMBER.strict. It starts the built program itself (`./run scitt` builds it), or the one that is named, which takes the words `show FILE` and
+`root FILE`.
 """
 import os, random, subprocess, sys, tempfile, time
 
@@ -218,28 +219,30 @@ class Inside:
     def near(self, rng): return Inside(self.shape.near(rng), self.where)
 
 def grid():
-    for order in ("rising", "falling", "shuffled"):
-        for levels, width in ((1, 8), (3, 8), (5, 8), (6, 7), (4, 16), (3, 32), (2, 64), (1, 256), (1, 900), (9, 4), (12, 2)):
-            yield Nest(levels, width, "numbers", order, "end")
-        for width, size in ((8, 40), (12, 1), (24, 1), (60, 1), (256, 60), (1024, 250), (4096, 250), (4096, 990)):
-            yield Flat(width, size, "numbers", order, "end")
-        for leaf in ("string", "text", "number", "empty strings", "tagged numbers", "maps of a number"):
-            yield Flat(4096, 990 if leaf != "number" else 1, leaf, order, "end")
-        yield Flat(4096, 990, "string", order, "middle")
-    for width in (7, 8, 17, 1000):
-        for behind in ("key", "value"):
-            yield Chain(12, width, "numbers", "rising", behind)
-    for leaf in LEAVES: yield Many(leaf)
-    for protected, unprotected, size in ((4090, 0, 1000), (0, 4096, 1000), (4090, 4096, 500), (4090, 4096, 0)):
-        for payload in ("small", "nil"):
-            yield Message(False, protected, unprotected, size, payload, "shuffled")
-    yield Message(False, 0, 0, 0, "fill", "rising")
+    """The shapes to begin with: those of mixed order first."""
     yield Message(True, 4089, 0, 0, "small", "falling")
     yield Message(True, 4089, 0, 0, "fill", "falling")
-    for where in ("protected", "unprotected"):
-        yield Inside(Flat(4096, 990, "numbers", "shuffled", "end"), where)
-        yield Inside(Nest(5, 8, "numbers", "shuffled", "end"), where)
-        yield Inside(Many("arrays of a number"), where)
+    for levels, width in ((5, 8), (6, 7)): yield Nest(levels, width, "numbers", "shuffled", "end")
+    for leaf in ("numbers", "empty strings", "tagged numbers", "maps of a number"): yield Flat(4096, 990, leaf, "shuffled", "end")
+    for width in (60, 24): yield Flat(width, 1, "number", "shuffled", "end")
+    yield Message(False, 4090, 0, 1000, "small", "shuffled")
+    yield Message(False, 4090, 4096, 500, "nil", "shuffled")
+    yield Message(False, 0, 0, 0, "fill", "rising")
+    for leaf in ("arrays of a number", "empty arrays"): yield Many(leaf)
+    for leaf in ("numbers", "empty strings", "maps of a number"): yield Nest(5, 8, leaf, "falling", "front")
+    yield Inside(Nest(5, 8, "numbers", "shuffled", "end"), "protected")
+    yield Inside(Many("arrays of a number"), "unprotected")
+    for order in ("shuffled", "falling", "inward", "rising"):
+        for levels, width in ((1, 8), (3, 8), (4, 16), (3, 32), (2, 64), (1, 256), (1, 900), (9, 4), (12, 2)):
+            yield Nest(levels, width, "numbers", order, "end")
+        for width, size in ((8, 40), (12, 1), (256, 60), (1024, 250), (4096, 250)):
+            yield Flat(width, size, "numbers", order, "end")
+        for leaf in ("string", "text", "number"): yield Flat(4096, 990 if leaf != "number" else 1, leaf, order, "end")
+        yield Flat(4096, 990, "string", order, "middle")
+    for width in (7, 8, 17, 1000):
+        for behind in ("key", "value"): yield Chain(12, width, "numbers", "rising", behind)
+    for leaf in LEAVES: yield Many(leaf)
+    for protected, unprotected, size in ((0, 4096, 1000), (4090, 4096, 0)): yield Message(False, protected, unprotected, size, "small", "shuffled")
 
 def used(program, command, path):
     child = subprocess.Popen([program, command, path], stdout=subprocess.PIPE)
@@ -270,7 +273,7 @@ def timed(program, shape, folder):
 
 def main():
     top = os.path.dirname(os.path.dirname(os.path.abspath(__file__)))
-    seconds = float(sys.argv[1]) if len(sys.argv) > 1 else 300
+    seconds = float(sys.argv[1]) if len(sys.argv) > 1 else 600
     keep = sys.argv[2] if len(sys.argv) > 2 else None
     program = sys.argv[3] if len(sys.argv) > 3 else os.path.join(top, "crates", "scitt", "out", "scitt")
     if len(sys.argv) <= 3: subprocess.run([os.path.join(top, "run"), "scitt", "root", os.devnull], stdout=subprocess.DEVNULL)
@@ -279,9 +282,11 @@ def main():
         def tried(shape):
             if not shape.fits() or shape.name() in rows: return
             found = timed(program, shape, folder)
-            if found: rows[shape.name()] = (*found, shape)
-        for shape in grid(): tried(shape)
-        print(f"{len(rows)} shapes of the grid", flush=True)
+            if found:
+                rows[shape.name()] = (*found, shape)
+                print(f"{found[0] * 1e3:.0f} {found[1] * 1e3:.0f} {shape.name()}", file=sys.stderr, flush=True)
+        for shape in grid():
+            if time.monotonic() < ends: tried(shape)
         while time.monotonic() < ends:
             worst = sorted(rows.values(), key=lambda row: -row[0])[:12] + sorted(rows.values(), key=lambda row: -row[0] / row[1])[:4]
             tried(rng.choice(worst)[4].near(rng))
