@@ -4,6 +4,8 @@
 #[cfg(test)]
 mod encodings;
 #[cfg(test)]
+mod hostile;
+#[cfg(test)]
 mod message_vectors;
 #[cfg(test)]
 mod messages;
