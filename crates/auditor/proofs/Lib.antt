@@ -1,3 +1,6 @@
+pub mod Taking
+pub mod Gates
+pub mod Audited
 pub mod Records
 pub mod Bad
 pub mod Saying

@@ -5,20 +5,7 @@ use Rattle.scitt_journal.specs.Layout.{sized, spelled, AllFit, Cut}
 use Rattle.auditor.specs.declared.walk.Walk.{Walk}
 use Rattle.auditor.specs.declared.walk.End.TheVariants as end
 use Rattle.auditor.specs.Walks.{Knows, IsAt, IsRecord, IsFound}
-
-spelled_push : (bodies : List (List ℕ)) (body : List ℕ) → spelled (bodies ++ body ∷ []) ≡ spelled bodies ++ 1 ∷ sized body
-spelled_push [] body = ap (λ (rest : List ℕ). 1 ∷ rest) (append-nil (sized body))
-spelled_push (first ∷ bodies) body =
-    ap (λ (rest : List ℕ). 1 ∷ (sized first ++ rest)) (spelled_push bodies body) ∙ ap (λ (rest : List ℕ). 1 ∷ rest) (sym (append_assoc (sized first) (spelled bodies) (1 ∷ sized body)))
-
-fit_push : (bodies : List (List ℕ)) (body : List ℕ) → AllFit bodies → length body < 2 ^ 32 → AllFit (bodies ++ body ∷ [])
-fit_push [] body fit fits = (fits, tt)
-fit_push (first ∷ bodies) body fit fits = (fit.0, fit_push bodies body fit.1 fits)
-
-fewer : (bodies : List (List ℕ)) → length bodies ≤ length (spelled bodies)
-fewer [] = omega arith
-fewer (first ∷ bodies) =
-    omega (arith, fewer bodies, length-append (sized first) (spelled bodies))
+use Rattle.auditor.proofs.Gates.{spelled_push, fit_push, five_each}
 
 opened : (rest : List ℕ) → 0 < length rest → rest ≡ get_or rest 0 0 ∷ drop 1 rest
 opened [] some = absurd (omega (arith, some))
@@ -31,7 +18,7 @@ at_first bytes w k = record { log = []; fit = tt; is = refl; knows = k }
 -- there are fewer records than bytes
 pub number_below : (bytes rest : List ℕ) (w : Walk) → IsAt bytes rest w → w.number ≤ length bytes
 number_below bytes rest w at =
-    omega (arith, at.knows.number, fewer at.log, ap length at.is, length-append (spelled at.log) rest)
+    omega (arith, at.knows.number, five_each at.log, ap length at.is, length-append (spelled at.log) rest)
 
 -- a record more
 pub at_more : (bytes rest tail body behind : List ℕ) (old new : Walk) → IsAt bytes rest old → 0 < length rest → get_or rest 0 0 ≡ 1 → tail ≡ drop 1 rest → IsRecord tail body behind

@@ -2,15 +2,8 @@
 use Rattle.std.specs.Prelude.{◌≡◌, ◌+◌, ◌≤◌, ◌↔◌, ℕ, List, Result, length, IfOk, IsErrOf}
 use Rattle.std.specs.declared.option.Option.{Option}
 use Rattle.std.specs.Io.KnownBytes.{Consumes}
-use Rattle.scitt_io.specs.declared.source.ReadStop.{ReadStop}
-use Rattle.scitt_io.specs.declared.source.ReadStop.TheVariants as read
 use Rattle.auditor.specs.declared.words.AuditStop.{AuditStop}
 use Rattle.auditor.specs.declared.words.AuditStop.TheVariants as audit
-
-abbrev pub read_stop : ReadStop → AuditStop
-read_stop read.TooLong = audit.TooLong
-read_stop read.ReadFault = audit.ReadFault
-read_stop read.OutOfMemory = audit.OutOfMemory
 
 -- What was left before and after, and the answer: an answer is about exactly the bytes taken, which are one more than the limit
 -- exactly where the input is too long.

@@ -5,11 +5,12 @@ ghost use Rattle.scitt_io.specs.Causes.{Rose};
 ghost use Rattle.auditor.specs.Reading.{Audits};
 ghost use Rattle.auditor.specs.Reports.{Reports, ReportsSince};
 
+use crate::following::follow;
 use crate::reports::{report_of, since_of};
 use crate::walk::find;
-use crate::words::{AuditStop, Report, Since, stop_of};
+use crate::words::{AuditStop, Report, Since};
 use merkle_tree::Hash;
-use scitt_io::{Source, read_to_end};
+use scitt_io::Source;
 use std::alloc::{AllocError, Global};
 
 /// Audits the log that these bytes are, as `audit` does those of a source. The only error is the want of memory.
@@ -20,15 +21,7 @@ pub fn audit_bytes(alloc: Global, bytes: &[u8]) -> Result<Report, AllocError>
     Ok(report_of(&found))
 }
 
-// What they say beside an older size and root.
-fn since_in(alloc: Global, bytes: &[u8], size: u32, root: &Hash) -> Result<Since, AllocError>
-    ensures { IfOk result (ReportsSince size root.now bytes.now) }
-{
-    let found = find(alloc, bytes)?;
-    Ok(since_of(&found, size, root))
-}
-
-/// Audits the log that a source's bytes are, all of them that are left, at most `limit`.
+/// Audits the log that a source's bytes are, all of them that are left, at most `limit`. One record is kept at a time.
 ///
 /// Each record is judged by the records before it: `Report::Bad` tells the first that fails a rule, also where a later one passes the
 /// end, and `Report::Clean` comes exactly where none fails and none passes it. `AuditStop::TooLong` comes exactly where more than
@@ -44,9 +37,9 @@ pub fn audit<S: Source>(alloc: Global, source: &mut S, limit: u64) -> Result<Rep
     ensures later { S.faults source.old ≤ S.faults source.new }
     ensures keeps { S.read_keeps source.old source.new }
 {
-    match read_to_end(alloc, source, limit) {
-        Ok(bytes) => Ok(audit_bytes(alloc, &bytes)?),
-        Err(stop) => Err(stop_of(stop)),
+    match follow(alloc, source, limit) {
+        Ok(found) => Ok(report_of(&found)),
+        Err(stop) => Err(stop),
     }
 }
 
@@ -68,8 +61,8 @@ pub fn audit_since<S: Source>(
     ensures later { S.faults source.old ≤ S.faults source.new }
     ensures keeps { S.read_keeps source.old source.new }
 {
-    match read_to_end(alloc, source, limit) {
-        Ok(bytes) => Ok(since_in(alloc, &bytes, size, root)?),
-        Err(stop) => Err(stop_of(stop)),
+    match follow(alloc, source, limit) {
+        Ok(found) => Ok(since_of(&found, size, root)),
+        Err(stop) => Err(stop),
     }
 }

@@ -11,8 +11,8 @@ fn size_of(bytes: &[u8; 4]) -> u32
     u32::from_be_bytes(*bytes)
 }
 
-// The length at the front of these bytes.
-fn length_of(four: &[u8]) -> u32
+/// The length at the front of these bytes.
+pub(crate) fn length_of(four: &[u8]) -> u32
     requires { length four.now ≡ 4 }
     ensures size { result ≡ size_in four.now }
     ensures spells { size_bytes result ≡ four.now }

@@ -44,7 +44,8 @@ pub(crate) struct Found {
 }
 
 impl Walk {
-    fn new(alloc: Global) -> Walk
+    /// No record.
+    pub(crate) fn new(alloc: Global) -> Walk
         ensures { Knows result [] }
     {
         Walk {
@@ -83,8 +84,8 @@ impl Walk {
         }
     }
 
-    // One record more.
-    fn take(&mut self, body: &[u8]) -> Result<(), AllocError>
+    /// One record more.
+    pub(crate) fn take(&mut self, body: &[u8]) -> Result<(), AllocError>
         requires { self.old.number < 2 ^ 63 }
         ensures { OnOk result ((R : Log) → Knows self.old R → Knows self.new (R ++ body.now ∷ [])) }
     {

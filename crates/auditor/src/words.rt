@@ -1,11 +1,9 @@
 // What an audit answers.
 ghost use Rattle.std.specs.Prelude.{◌≡◌};
 ghost use Rattle.auditor.specs.declared.words.AuditStop.TheVariants as of_audit;
-ghost use Rattle.auditor.specs.Reading.{read_stop};
 
 use log_replay::Why;
 use merkle_tree::Hash;
-use scitt_io::ReadStop;
 use std::alloc::AllocError;
 use std::error::Error;
 use std::fmt;
@@ -74,16 +72,5 @@ impl From<AllocError> for AuditStop {
 
     fn from(_error: AllocError) -> AuditStop {
         AuditStop::OutOfMemory
-    }
-}
-
-/// The same of a source that wasn't read to its end.
-pub(crate) fn stop_of(stop: ReadStop) -> AuditStop
-    ensures { result ≡ read_stop stop }
-{
-    match stop {
-        ReadStop::TooLong => AuditStop::TooLong,
-        ReadStop::ReadFault => AuditStop::ReadFault,
-        ReadStop::OutOfMemory => AuditStop::OutOfMemory,
     }
 }

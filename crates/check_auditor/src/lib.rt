@@ -12,3 +12,5 @@ mod journals;
 mod reports;
 #[cfg(test)]
 mod sources;
+#[cfg(test)]
+mod streams;

@@ -7,21 +7,21 @@ use std::test::Fail;
 
 const CLEAN: &str = "clean 1 0 3 e3b0c44298fc1c149afbf4c8996fb92427ae41e4649b934ca495991b7852b855";
 
-// It reads all the bytes at once, and then their end.
+// It reads the first gate, the length, the body with the gate behind it, the rest, and the end.
 #[test]
 fn a_failed_read_is_a_read_fault(rt: HostRuntime) -> Result<(), Fail> {
     let alloc = rt.alloc();
-    for call in 0..4 {
+    for call in 0..8 {
         let fails = Vec::from_slice(alloc, &[call])?;
         let mut source = MemSource::new(journal(alloc, &["header", "rest"])?, fails);
         match audit(alloc, &mut source, 1_000) {
             Ok(report) => {
-                assert!(rt; call > 1, "call {call}");
+                assert!(rt; call > 4, "call {call}");
                 assert_eq!(rt; said(alloc, &report)?.as_str(), CLEAN);
                 assert_eq!(rt; source.faults(), 0);
             }
             Err(stop) => {
-                assert!(rt; call < 2, "call {call}");
+                assert!(rt; call < 5, "call {call}");
                 assert!(rt; stop == AuditStop::ReadFault);
                 assert_eq!(rt; source.faults(), 1);
             }
