@@ -1,0 +1,3 @@
+pub mod OneMember
+pub mod Depths
+pub mod Judging

@@ -1,0 +1,10 @@
+pub mod Refusals
+pub mod Fields
+pub mod Holders
+pub mod Conditions
+pub mod Policies
+pub mod Trusts
+pub mod Levels
+pub mod Params
+pub mod Writing
+pub mod RefusalText

@@ -1,0 +1,6 @@
+pub mod Text
+pub mod Answer
+pub mod Command
+pub mod Meaning
+pub mod Texts
+pub mod Run

@@ -1,0 +1,6 @@
+-- What the code's commands mean.
+use Rattle.write_tool.specs.declared.command.Command.{Command as Read}
+use Rattle.write_tool.specs.Command.{Command}
+
+abbrev pub meaning : Read → Command
+meaning c = record { kind = c.kind; file = c.file.now }

@@ -1,0 +1,44 @@
+// The commands, and the words of each.
+
+ghost use Rattle.std.specs.Prelude.{◌≡◌};
+ghost use Rattle.std.specs.Option.{option_map};
+ghost use Rattle.write_tool.specs.Command as said;
+ghost use Rattle.write_tool.specs.Meaning.{meaning};
+
+use scitt_io::Words;
+
+/// The kinds of form.
+#[derive(Debug, Clone, Copy, PartialEq, Eq)]
+pub enum Kind {
+    /// `policy FILE`
+    Policy,
+}
+
+/// A kind of form, and the file that has it.
+#[derive(Clone, Copy)]
+pub(crate) struct Command<'a> {
+    pub kind: Kind,
+    pub file: &'a str,
+}
+
+fn with_one<'a>(name: &str, file: &'a str) -> Option<Command<'a>>
+    ensures { option_map meaning result ≡ said.with_one name.now file.now }
+{
+    match name {
+        "policy" => Some(Command {
+            kind: Kind::Policy,
+            file,
+        }),
+        _ => None,
+    }
+}
+
+/// The command that the words are, exactly.
+pub(crate) fn command_of(words: &Words) -> Option<Command<'_>>
+    ensures { option_map meaning result ≡ said.command_of words.now }
+{
+    match words.len() {
+        2 => with_one(words.word(0), words.word(1)),
+        _ => None,
+    }
+}

@@ -1,0 +1,70 @@
+// What a command answers to the bytes of its file.
+
+ghost use Rattle.std.specs.Prelude.{◌≡◌, ◌++◌, IfOk, ◌≤◌};
+ghost use Rattle.std.specs.String.{string_bytes};
+ghost use Rattle.scitt_forms.specs.RefusalText.{refusal_text};
+ghost use Rattle.write_tool.specs.Answer.{IsAnswer, refused as refused_by};
+ghost use Rattle.write_tool.specs.Texts.{Written, WrittenOf, Answered};
+
+use crate::answer::Answer;
+use crate::command::Kind;
+use cbor_core::Bytes;
+use scitt_forms::{FormStop, Place, Refusal, Why, Word, write_policy};
+use std::alloc::{AllocError, Global};
+
+/// The text isn't a TOML document.
+const NO_TOML: Refusal = Refusal {
+    place: Place {
+        list: Word::Form,
+        index: 0,
+    },
+    word: Word::Form,
+    why: Why::Toml,
+};
+
+fn written(alloc: Global, kind: Kind, text: &str) -> Result<Bytes, FormStop>
+    ensures { Written kind text.now result }
+{
+    match kind {
+        Kind::Policy => write_policy(alloc, text),
+    }
+}
+
+fn written_of(alloc: Global, kind: Kind, bytes: &[u8]) -> Result<Bytes, FormStop>
+    ensures { WrittenOf kind bytes.now result }
+{
+    match std::str::from_utf8(bytes) {
+        Ok(text) => written(alloc, kind, text),
+        Err(_) => Err(FormStop::Refused(NO_TOML)),
+    }
+}
+
+fn refused(alloc: Global, refusal: &Refusal) -> Result<Answer, AllocError>
+    ensures { IfOk result (λ answer. answer ≡ refused_by (refusal_text refusal.now)) }
+{
+    let said = refusal.text(alloc)?;
+    let mut text = String::from_str(alloc, "refused ")?;
+    text.push_str(said.as_str())?;
+    text.push_str("\n")?;
+    Ok(Answer::made(1, text))
+}
+
+fn answer_of(alloc: Global, written: Result<Bytes, FormStop>) -> Result<Answer, AllocError>
+    ensures is { IfOk result (IsAnswer written) }
+    ensures status { IfOk result (λ answer. answer.status ≤ 1) }
+{
+    match written {
+        Ok(bytes) => Ok(Answer::bytes(0, bytes)),
+        Err(FormStop::Refused(r)) => refused(alloc, &r),
+        Err(FormStop::TooLong) => Ok(Answer::fixed(1, "refused form long\n")),
+        Err(FormStop::OutOfMemory) => Err(AllocError),
+    }
+}
+
+/// What a command answers to the bytes of its file.
+pub(crate) fn answer_to(alloc: Global, kind: Kind, bytes: &[u8]) -> Result<Answer, AllocError>
+    ensures answered { IfOk result (Answered kind bytes.now) }
+    ensures status { IfOk result (λ answer. answer.status ≤ 1) }
+{
+    answer_of(alloc, written_of(alloc, kind, bytes))
+}
