@@ -115,3 +115,114 @@ fn a_doubled_key_is_found_among_many(rt: HostRuntime) -> Result<(), Fail> {
     }
     Ok(())
 }
+
+/// The place of key i of so many in an order: rising, falling, or the least, the greatest, the next one and so on.
+fn place_in(order: u8, width: u8, i: u8) -> u8 {
+    let other = width.saturating_sub(1).saturating_sub(i);
+    match order {
+        0 => i,
+        1 => other,
+        _ => {
+            if i % 2 == 0 {
+                i / 2
+            } else {
+                width.saturating_sub(1).saturating_sub(i / 2)
+            }
+        }
+    }
+}
+
+/// A map of so many keys, at most 23, that are a beginning and a number, but for the last value.
+fn level(alloc: Global, beginning: &[u8], width: u8, order: u8) -> Result<Vec<u8>, AllocError> {
+    let mut bytes = Vec::new(alloc);
+    bytes.push(0xa0 | width)?;
+    for i in 0..width {
+        if i > 0 {
+            bytes.push(0)?;
+        }
+        push_all(&mut bytes, beginning)?;
+        bytes.push(place_in(order, width, i))?;
+    }
+    Ok(bytes)
+}
+
+/// A map whose keys are maps of as many keys in turn, two levels down: all keys of a map are alike but for their last byte.
+fn keys_in_keys(alloc: Global, width: u8, order: u8) -> Result<Vec<u8>, AllocError> {
+    let first = level(alloc, &[], width, order)?;
+    let second = level(alloc, first.as_slice(), width, order)?;
+    let mut whole = level(alloc, second.as_slice(), width, order)?;
+    whole.push(0)?;
+    Ok(whole)
+}
+
+/// A map of two equal keys, each of them a map whose keys are maps.
+fn doubled_keys(alloc: Global, width: u8, order: u8) -> Result<Vec<u8>, AllocError> {
+    let key = keys_in_keys(alloc, width, order)?;
+    let mut bytes = Vec::new(alloc);
+    bytes.push(0xa2)?;
+    push_all(&mut bytes, key.as_slice())?;
+    bytes.push(0)?;
+    push_all(&mut bytes, key.as_slice())?;
+    bytes.push(0)?;
+    Ok(bytes)
+}
+
+#[test]
+fn keys_in_keys_are_read_in_any_order(rt: HostRuntime) -> Result<(), Fail> {
+    let alloc = rt.alloc();
+    for width in [2, 8, 9] {
+        for order in 0..3 {
+            let bytes = keys_in_keys(alloc, width, order)?;
+            let wide = decode_wide_all(alloc, bytes.as_slice());
+            assert!(rt; wide.is_ok(), "wide, {width} keys, order {order}");
+            let strict = decode_strict_all(alloc, bytes.as_slice());
+            assert_eq!(rt;
+                strict.is_ok(),
+                order == 0 || (width == 2 && order == 2),
+                "strict, {width} keys, order {order}"
+            );
+            let bytes = doubled_keys(alloc, width, order)?;
+            match decode_wide_all(alloc, bytes.as_slice()) {
+                Ok(_) => return Err("a key stands there twice".into()),
+                Err(stop) => {
+                    assert_eq!(rt;
+                        why(&stop),
+                        Some(Why::DupKey),
+                        "{width} keys, order {order}"
+                    );
+                }
+            }
+        }
+    }
+    Ok(())
+}
+
+/// Maps in each other, so many, each the last key behind 17 numbers.
+fn chained(alloc: Global, levels: u8) -> Result<Vec<u8>, AllocError> {
+    let mut bytes = Vec::new(alloc);
+    for _ in 0..levels {
+        bytes.push(0xb2)?;
+        for n in 0..17 {
+            push_all(&mut bytes, [n, 0].as_slice())?;
+        }
+    }
+    bytes.push(0x80)?;
+    for _ in 0..levels {
+        bytes.push(0)?;
+    }
+    Ok(bytes)
+}
+
+#[test]
+fn maps_stand_in_each_other_as_keys(rt: HostRuntime) -> Result<(), Fail> {
+    let alloc = rt.alloc();
+    let bytes = chained(alloc, 15)?;
+    assert!(rt; decode_wide_all(alloc, bytes.as_slice()).is_ok());
+    assert!(rt; decode_strict_all(alloc, bytes.as_slice()).is_ok());
+    let bytes = chained(alloc, 16)?;
+    match decode_wide_all(alloc, bytes.as_slice()) {
+        Ok(_) => return Err("seventeen containers stand in each other".into()),
+        Err(stop) => assert_eq!(rt; why(&stop), Some(Why::TooDeep)),
+    }
+    Ok(())
+}

@@ -1,32 +1,56 @@
+// crit: the labels that it lists are understood and stand in the protected map (RFC 9052, 3.1).
 ghost use Rattle.std.specs.Prelude.{◌≡◌};
 ghost use Rattle.cbor_core.specs.declared.tree.Node.{out-Node};
 ghost use Rattle.cose_sign1.specs.Labels.{value_at};
-ghost use Rattle.cose_sign1.specs.Headers.{Says, is_understood as understood, is_listed_in, all_listed, crit_in, crit_fine, crit_fault};
+ghost use Rattle.cose_sign1.specs.Headers.{Says, all_listed, crit_in, crit_fine, crit_fault};
+ghost use Rattle.cose_sign1.specs.Understood.{Tells};
 
 use crate::labels::{find, has_label};
 use crate::stops::Sign1Stop;
 use cbor_core::{Item, Node};
 
-fn is_understood(n: u64) -> bool
-    ensures { result ≡ understood n }
-{
-    matches!(n, 1 | 2 | 3 | 4 | 15 | 395 | 396)
+/// Which of the labels that crit may list stand in the protected map, asked for once each: a map and a list may be long.
+#[derive(Drop)]
+struct Understood {
+    alg: bool,
+    crit: bool,
+    content_type: bool,
+    kid: bool,
+    cwt_claims: bool,
+    vds: bool,
+    vdp: bool,
 }
 
-fn is_listed(protected: &[(Item, Item)], node: &Node) -> bool
-    ensures { result ≡ is_listed_in protected.now (out-Node node.now) }
+fn find_understood(protected: &[(Item, Item)]) -> Understood
+    ensures { Tells protected.now result }
 {
-    match node {
-        Node::Uint(n) => is_understood(*n) && has_label(*n, protected),
-        _ => false,
+    Understood {
+        alg: has_label(1, protected),
+        crit: has_label(2, protected),
+        content_type: has_label(3, protected),
+        kid: has_label(4, protected),
+        cwt_claims: has_label(15, protected),
+        vds: has_label(395, protected),
+        vdp: has_label(396, protected),
     }
 }
 
 fn are_listed(protected: &[(Item, Item)], items: &[Item]) -> bool
     ensures { result ≡ all_listed protected.now items.now }
 {
+    let here = find_understood(protected);
     for item in items {
-        if !is_listed(protected, &item.node) {
+        let listed = match &item.node {
+            Node::Uint(1) => here.alg,
+            Node::Uint(2) => here.crit,
+            Node::Uint(3) => here.content_type,
+            Node::Uint(4) => here.kid,
+            Node::Uint(15) => here.cwt_claims,
+            Node::Uint(395) => here.vds,
+            Node::Uint(396) => here.vdp,
+            _ => false,
+        };
+        if !listed {
             return false;
         }
     }
