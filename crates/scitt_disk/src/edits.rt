@@ -1,5 +1,5 @@
 // A file in memory and the list of its changes, as plain vectors.
-ghost use Rattle.std.specs.Prelude.{◌≡◌, ◌⊎◌, OnOk, OnErr, [], ◌∷◌, ◌++◌};
+ghost use Rattle.std.specs.Prelude.{◌≡◌, OnOk, OnErr, [], ◌∷◌, ◌++◌};
 ghost use Rattle.scitt_disk.specs.Images.{Held};
 ghost use Rattle.scitt_disk.specs.Changes.{put, after_write, after_refusal, after_sync};
 ghost use Rattle.scitt_disk.specs.Calls.{replay};
@@ -48,12 +48,13 @@ fn note(changes: &mut Vec<Change>, change: Change) -> Result<(), AllocError>
 }
 
 #[tactic(auto, using(crate::proofs::Replay::replay_push))]
-/// Notes that a write was refused, where there is memory for the note.
-pub fn note_refusal(changes: &mut Vec<Change>, at: u64, n: u64)
-    ensures { (changes.new.items ≡ changes.old.items)
-        ⊎ ((start : Held) → replay start changes.new.items ≡ after_refusal at n (replay start changes.old.items)) }
+/// Notes that a write was refused. Nothing has changed where memory is wanting.
+pub fn note_refusal(changes: &mut Vec<Change>, at: u64, n: u64) -> Result<(), AllocError>
+    ensures noted { OnOk result ((start : Held)
+        → replay start changes.new.items ≡ after_refusal at n (replay start changes.old.items)) }
+    ensures kept { OnErr result (changes.new.items ≡ changes.old.items) }
 {
-    let _ = note(changes, Change::Refused(at, n));
+    note(changes, Change::Refused(at, n))
 }
 
 #[tactic(auto, using(crate::proofs::Replay::replay_push))]

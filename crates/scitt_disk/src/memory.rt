@@ -1,7 +1,7 @@
 ghost use Rattle.std.specs.Prelude.{◌≡◌, ℕ, List, ◌+◌, ◌≤◌, ◌<◌, ◌↔◌, ◌⊎◌, Bool, true, IsTrue, IfOk, OnOk, OnErr, IsErr, [], length, take, drop, if◌then◌else◌};
 ghost use Rattle.scitt_io.specs.Causes.{HasCause, Rose, raised};
 ghost use Rattle.scitt_disk.specs.Images.{ImageNow};
-ghost use Rattle.scitt_disk.specs.Changes.{fresh, after_write, after_sync, AfterFailedWrite};
+ghost use Rattle.scitt_disk.specs.Changes.{fresh, after_write, after_refusal, after_sync, AfterFailedWrite};
 ghost use Rattle.scitt_disk.specs.Calls.{held_from};
 ghost use Rattle.scitt_disk.specs.Mixed.{IsPicked};
 ghost use Rattle.scitt_disk.specs.Failing.{FailsNow, Advances};
@@ -19,7 +19,7 @@ use std::alloc::AllocError;
 ///
 /// From its first change on it keeps its first bytes and each change, once, and so what it held at each sync. A write
 /// goes in place. Where it finds no memory for a change it answers `DiskFault` and counts it; such a call isn't listed, and
-/// `wants_of` counts it besides.
+/// `wants_of` counts it besides. A write that is listed is noted as refused, or counted there.
 #[derive(Drop)]
 pub struct MemDisk {
     bytes: Vec<u8>,
@@ -76,6 +76,8 @@ impl MemDisk {
         ensures fails { IfOk result (λ d. (plan_of d).fails.items ≡ []) }
         ensures made { IfOk result (λ d. (plan_of d).made ≡ 0) }
         ensures faults { IfOk result (λ d. (plan_of d).faults ≡ 0) }
+        ensures strays { IfOk result (λ d. strays_of d ≡ 0) }
+        ensures wants { IfOk result (λ d. wants_of d ≡ 0) }
     {
         let alloc = *self.bytes.allocator();
         let first = chosen(self.kept, &self.first, &self.bytes);
@@ -130,6 +132,19 @@ impl MemDisk {
             self.kept = true;
         }
         Ok(())
+    }
+
+    // Notes a write that the list refuses; a want is counted where there is no memory for the note.
+    fn refuse(&mut self, at: u64, n: u64)
+        ensures noted { (held_of self.new ≡ after_refusal at n (held_of self.old))
+            ⊎ ((held_of self.new ≡ held_of self.old) × Rose (wants_of self.old) (wants_of self.new)) }
+        ensures plan { plan_of self.new ≡ plan_of self.old }
+        ensures strays { strays_of self.new ≡ strays_of self.old }
+    {
+        let _before = self.wants;
+        if note_refusal(&mut self.changes, at, n).is_err() {
+            self.wants = self.wants.saturating_add(1);
+        }
     }
 
     // Makes a write. Nothing has changed where memory is wanting.
@@ -224,6 +239,8 @@ impl Disk for MemDisk {
         ensures only { OnErr result (FailsNow (plan_of self.old) ⊎ (length (held_of self.old).seen < at)
             ⊎ Rose (wants_of self.old) (wants_of self.new)) }
         ensures counted { Advances (plan_of self.old) (plan_of self.new) }
+        ensures refused { FailsNow (plan_of self.old)
+            → (held_of self.new ≡ after_refusal at (length bytes.now) (held_of self.old)) ⊎ Rose (wants_of self.old) (wants_of self.new) }
         ensures once { OnErr result ((plan_of self.new).faults ≡ raised (plan_of self.old).faults) }
         ensures strays { strays_of self.old ≤ strays_of self.new }
         ensures in_range { at ≤ length (held_of self.old).seen → strays_of self.new ≡ strays_of self.old }
@@ -232,7 +249,7 @@ impl Disk for MemDisk {
     {
         let passes = self.passes_end(at, 0);
         if fails_next(&mut self.plan) {
-            note_refusal(&mut self.changes, at, bytes.len() as u64);
+            self.refuse(at, bytes.len() as u64);
             return Err(DiskFault);
         }
         if passes {

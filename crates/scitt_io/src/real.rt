@@ -1,5 +1,5 @@
 // The trusted edge: real files and streams. They tell nothing, and count what the system refuses.
-ghost use Rattle.std.specs.Prelude.{◌≡◌, ℕ, List, None};
+ghost use Rattle.std.specs.Prelude.{◌≡◌, ℕ, List, [], None};
 ghost use Rattle.std.specs.declared.option.Option.{Option};
 ghost use Rattle.std.specs.Io.{ReadsAtMost, WritesAtMost};
 ghost use Rattle.std.specs.Io.KnownBytes.{ReadConsumes, WriteAppends};
@@ -34,7 +34,8 @@ pub struct FileFolder<R: Files + Input + Drop> {
 impl<R: Files + Input + Drop> FileFolder<R> {
     /// Files of which none is chosen yet, with no fault counted.
     pub fn new(system: R) -> Self
-        ensures { ⟦<FileFolder<R> as Source>⟧.faults result ≡ 0 }
+        ensures faults { ⟦<FileFolder<R> as Source>⟧.faults result ≡ 0 }
+        ensures asked { ⟦<FileFolder<R> as Folder>⟧.asked result ≡ [] }
     {
         FileFolder {
             system,
