@@ -13,3 +13,4 @@ pub mod Exact
 pub mod Fitting
 pub mod Items
 pub mod Keys
+pub mod Writes

@@ -11,6 +11,7 @@ mod limits;
 mod measuring;
 mod node_heads;
 mod order;
+mod pieces;
 mod places;
 mod reading;
 mod same;
@@ -20,7 +21,7 @@ mod words;
 mod writing;
 
 pub use decoding::{decode_strict, decode_strict_all, decode_wide, decode_wide_all, strict_of};
-pub use encoding::{encode, encode_into, encoded_len};
+pub use encoding::{encode, encode_into, encoded_len, zeros};
 pub use items::{
     array_of, bytes_of, is_nil, is_nint, is_uint, map_of, nint_of, tag_of, text_of, uint_of,
 };
@@ -31,6 +32,7 @@ pub use laws::{
     whole_bytes_have_one_answer, wide_item_is_exact,
 };
 pub use order::below;
+pub use pieces::{head_len, put, put_head};
 pub use places::{has_ordered_key, key_order};
 pub use same::{has_key, same_item};
 pub use strings::{Bytes, Text};

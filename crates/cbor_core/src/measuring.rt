@@ -12,8 +12,8 @@ use crate::words::Grammar;
 
 const MOST: usize = 9_223_372_036_854_775_807;
 
-/// How many bytes a head has.
-pub fn head_len(size: Size) -> usize
+/// How many bytes a head with an argument of this size has.
+pub fn size_len(size: Size) -> usize
     ensures value { result ≡ head_size size }
     ensures small { result < 10 }
 {
@@ -100,7 +100,7 @@ fn node_len(g: Grammar, room: u8, node: &Node) -> Option<usize>
         return None;
     }
     let head = node_head(node);
-    sum(Some(head_len(head.size)), content_len(g, room, node))
+    sum(Some(size_len(head.size)), content_len(g, room, node))
 }
 
 #[cycle(measuring)]

@@ -8,7 +8,7 @@ use crate::tree::{Item, Node};
 use std::slice;
 
 /// The shortest size of an argument (RFC 8949, 4.2.1).
-fn size_for(n: u64) -> Size
+pub fn size_for(n: u64) -> Size
     ensures { result ≡ size_of n }
 {
     if n < 24 {
@@ -26,7 +26,7 @@ fn size_for(n: u64) -> Size
     Size::Eight
 }
 
-fn short(major: u8, argument: u64) -> Head
+pub fn short(major: u8, argument: u64) -> Head
     ensures { result ≡ shortest major argument }
 {
     Head {
