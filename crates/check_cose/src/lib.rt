@@ -4,6 +4,10 @@
 #[cfg(test)]
 mod encodings;
 #[cfg(test)]
+mod hostile;
+#[cfg(test)]
+mod hostile_vectors;
+#[cfg(test)]
 mod message_vectors;
 #[cfg(test)]
 mod messages;

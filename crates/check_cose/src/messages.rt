@@ -24,7 +24,7 @@ fn faulted(alloc: Global, name: &str, fault: &Fault) -> Result<String, AllocErro
 }
 
 /// What the decoder said: `ok`, or the refusal with its place or label.
-fn said(alloc: Global, answer: &Result<Sign1, Sign1Stop>) -> Result<String, AllocError> {
+pub(crate) fn said(alloc: Global, answer: &Result<Sign1, Sign1Stop>) -> Result<String, AllocError> {
     match answer {
         Ok(_) => String::from_str(alloc, "ok"),
         Err(Sign1Stop::Cbor(fault)) => faulted(alloc, "cbor", fault),

@@ -11,29 +11,29 @@ use Rattle.cbor_core.specs.declared.tree.Node.{out-Node}
 use Rattle.cbor_core.specs.declared.tree.Node.TheVariants.{outs-Bytes}
 use Rattle.cbor_core.specs.Tree.{Layer}
 use Rattle.cbor_core.specs.Head.{head, MayStand}
-use Rattle.cbor_core.specs.Encoding.{size_of}
+use Rattle.cbor_core.specs.Encoding.{size_of, head_size}
 use Rattle.cbor_core.specs.Spells.{SpellsLayer}
 use Rattle.cbor_core.specs.Limits.{longest_string}
-use Rattle.cose_sign1.specs.Strings.{head_len, string_head, string_text, string_len, Writes}
+use Rattle.cbor_core.specs.Writes.{Writes}
+use Rattle.cose_sign1.specs.Strings.{head_len, string_head, string_text, string_len}
 use Rattle.cose_sign1.specs.Tbs.{byte_item}
 
-pick : (P : Size → ℕ → Type 0) (b : Bool) (s t : Size) (k m : ℕ) → (b ≡ true → P s k) → (b ≡ false → P t m) → P (if b then s else t) (if b then k else m)
-pick P true s t k m f g = f refl
-pick P false s t k m f g = g refl
+pick : (P : Size → Type 0) (b : Bool) (s t : Size) → (b ≡ true → P s) → (b ≡ false → P t) → P (if b then s else t)
+pick P true s t f g = f refl
+pick P false s t f g = g refl
 
 -- what holds at each size, under its bounds, holds at the shortest one
-by_size : (n : ℕ) (P : Size → ℕ → Type 0) → (n < 24 → P Within 1) → (24 ≤ n → n < 2 ^ 8 → P One 2) → (2 ^ 8 ≤ n → n < 2 ^ 16 → P Two 3) → (2 ^ 16 ≤ n → n < 2 ^ 32 → P Four 5) → (2 ^ 32 ≤ n → P Eight 9) → P (size_of n) (head_len n)
-unfolding head_len
+by_size : (n : ℕ) (P : Size → Type 0) → (n < 24 → P Within) → (24 ≤ n → n < 2 ^ 8 → P One) → (2 ^ 8 ≤ n → n < 2 ^ 16 → P Two) → (2 ^ 16 ≤ n → n < 2 ^ 32 → P Four) → (2 ^ 32 ≤ n → P Eight) → P (size_of n)
 by_size n P a b c d e =
-    pick P (nat_lt n 24) _ _ _ _ (λ t. a (ltb-true n 24 t)) (λ f. pick P (nat_lt n (2 ^ 8)) _ _ _ _ (λ t. b (ltb-false n 24 f) (ltb-true n (2 ^ 8) t)) (λ g. pick P (nat_lt n (2 ^ 16)) _ _ _ _ (λ t. c (ltb-false n (2 ^ 8) g) (ltb-true n (2 ^ 16) t)) (λ h. pick P (nat_lt n (2 ^ 32)) _ _ _ _ (λ t. d (ltb-false n (2 ^ 16) h) (ltb-true n (2 ^ 32) t)) (λ k. e (ltb-false n (2 ^ 32) k)))))
+    pick P (nat_lt n 24) _ _ (λ t. a (ltb-true n 24 t)) (λ f. pick P (nat_lt n (2 ^ 8)) _ _ (λ t. b (ltb-false n 24 f) (ltb-true n (2 ^ 8) t)) (λ g. pick P (nat_lt n (2 ^ 16)) _ _ (λ t. c (ltb-false n (2 ^ 8) g) (ltb-true n (2 ^ 16) t)) (λ h. pick P (nat_lt n (2 ^ 32)) _ _ (λ t. d (ltb-false n (2 ^ 16) h) (ltb-true n (2 ^ 32) t)) (λ k. e (ltb-false n (2 ^ 32) k)))))
 
 pub length_head : (n : ℕ) → length (string_head n) ≡ head_len n
-unfolding string_head
-length_head n = by_size n (λ s k. length (head 2 s n) ≡ k) (λ _. refl) (λ _ _. refl) (λ _ _. refl) (λ _ _. refl) (λ _. refl)
+unfolding string_head head_len
+length_head n = by_size n (λ s. length (head 2 s n) ≡ head_size s) (λ _. refl) (λ _ _. refl) (λ _ _. refl) (λ _ _. refl) (λ _. refl)
 
 shortest_stands : (n : ℕ) → n < 2 ^ 64 → MayStand Strict (size_of n) n
 shortest_stands n fits =
-    by_size n (λ s k. MayStand Strict s n) (λ a. (omega arith, a)) (λ a b. (a, b)) (λ a b. (a, b)) (λ a b. (a, b)) (λ a. (a, fits))
+    by_size n (λ s. MayStand Strict s n) (λ a. (omega arith, a)) (λ a b. (a, b)) (λ a b. (a, b)) (λ a b. (a, b)) (λ a. (a, fits))
 
 pub length_string : (bytes : List ℕ) → length (string_text bytes) ≡ string_len (length bytes)
 length_string bytes = omega (arith, length-append (string_head (length bytes)) bytes, length_head (length bytes))

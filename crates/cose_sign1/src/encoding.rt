@@ -7,8 +7,8 @@ ghost use Rattle.cose_sign1.specs.Tbs.{byte_item};
 ghost use Rattle.cose_sign1.specs.Message.{payload_item, message_parts, tagged_item, message_item, Encodes, bare_item, bare_len as len_of_bare, bare_text};
 
 use crate::copy::copy_item;
-use crate::strings::{head_len, put, put_string};
-use cbor_core::{Bytes, EncodeStop, Item, Node};
+use crate::strings::{put_string, string_head_len};
+use cbor_core::{Bytes, EncodeStop, Item, Node, put};
 use sqlite_items::{Boxed, Items};
 use std::alloc::{AllocError, Global};
 
@@ -104,11 +104,11 @@ pub fn bare_len(protected: &[u8], payload: &[u8], signature: &[u8]) -> usize
     requires signature_fits { length signature.now ≤ longest_string }
     ensures { result ≡ len_of_bare protected.now payload.now signature.now }
 {
-    let strings = head_len(protected.len())
+    let strings = string_head_len(protected.len())
         + protected.len()
-        + head_len(payload.len())
+        + string_head_len(payload.len())
         + payload.len();
-    3 + strings + head_len(signature.len()) + signature.len()
+    3 + strings + string_head_len(signature.len()) + signature.len()
 }
 
 fn write_bare(protected: &[u8], payload: &[u8], signature: &[u8], buf: &mut [u8])

@@ -2,7 +2,8 @@ ghost use Rattle.std.specs.Prelude.{◌≡◌, ℕ, ◌≤◌, length};
 ghost use Rattle.cbor_core.specs.Limits.{longest_string};
 ghost use Rattle.cose_sign1.specs.Tbs.{no_map, signed_of as signed_string, tbs_front, tbs_len, tbs_text, Tbs, HasTbsLength};
 
-use crate::strings::{head_len, put, put_string};
+use crate::strings::{put_string, string_head_len};
+use cbor_core::put;
 
 // the head of an array of four, and the text "Signature1"
 const FRONT: [u8; 12] = [
@@ -38,7 +39,7 @@ pub fn to_be_signed_len(protected: &[u8], payload: &[u8]) -> usize
     ensures exact { HasTbsLength protected.now payload.now result }
 {
     let signed = signed_of(protected).len();
-    13 + head_len(signed) + signed + head_len(payload.len()) + payload.len()
+    13 + string_head_len(signed) + signed + string_head_len(payload.len()) + payload.len()
 }
 
 fn write_structure(signed: &[u8], payload: &[u8], buf: &mut [u8])

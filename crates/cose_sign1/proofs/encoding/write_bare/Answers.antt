@@ -8,12 +8,12 @@ pub put-at-requires-2 : goal.put-at-requires-2
 put-at-requires-2 c =
     omega (arith, c.requires.room, c.put-at.ensures.place, c.put_string-at.ensures.place, length_string c.args.protected.now)
 
-pub put_string-at-requires-2-clause-room : goal.put_string-at-requires-2-clause-room
-put_string-at-requires-2-clause-room c =
+pub put_string-at-requires-2 : goal.put_string-at-requires-2
+put_string-at-requires-2 c =
     omega (arith, c.requires.room, c.put-at.ensures.place, c.put_string-at.ensures.place, c.put-at-2.ensures.place, length_string c.args.protected.now)
 
-pub put_string-end-requires-clause-room : goal.put_string-end-requires-clause-room
-put_string-end-requires-clause-room c =
+pub put_string-end-requires : goal.put_string-end-requires
+put_string-end-requires c =
     omega (arith, c.requires.room, c.put-at.ensures.place, c.put_string-at.ensures.place, c.put-at-2.ensures.place, c.put_string-at-2.ensures.place, length_string c.args.protected.now, length_string c.args.payload.now)
 
 pub returns : goal.returns

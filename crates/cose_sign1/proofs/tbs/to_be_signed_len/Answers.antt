@@ -8,4 +8,4 @@ pub returns-clause-exact : goal.returns-clause-exact
 returns-clause-exact c =
     let protected = c.args.protected.now in
     let payload = c.args.payload.now in
-    (tbs_text (signed_of protected) payload, tbs_is protected payload c.requires.protected_fits c.requires.payload_fits, omega (arith, tbs_length (signed_of protected) payload, c.head_len.ensures.value, c.head_len-2.ensures.value, ap length c.signed_of-signed.ensures, ap head_len (ap length c.signed_of-signed.ensures)))
+    (tbs_text (signed_of protected) payload, tbs_is protected payload c.requires.protected_fits c.requires.payload_fits, omega (arith, tbs_length (signed_of protected) payload, c.string_head_len.ensures.value, c.string_head_len-2.ensures.value, ap length c.signed_of-signed.ensures, ap head_len (ap length c.signed_of-signed.ensures)))

@@ -7,16 +7,16 @@ use Rattle.cose_sign1.proofs.tbs.write_structure.Goals as goal
 pub put-at-requires : goal.put-at-requires
 put-at-requires c = omega (arith, c.requires.room, tbs_length c.args.signed.now c.args.payload.now)
 
-pub put_string-at-requires-clause-room : goal.put_string-at-requires-clause-room
-put_string-at-requires-clause-room c =
+pub put_string-at-requires : goal.put_string-at-requires
+put_string-at-requires c =
     omega (arith, c.requires.room, tbs_length c.args.signed.now c.args.payload.now, c.put-at.ensures.place)
 
 pub put-at-requires-2 : goal.put-at-requires-2
 put-at-requires-2 c =
     omega (arith, c.requires.room, tbs_length c.args.signed.now c.args.payload.now, c.put-at.ensures.place, c.put_string-at.ensures.place, length_string c.args.signed.now)
 
-pub put_string-end-requires-clause-room : goal.put_string-end-requires-clause-room
-put_string-end-requires-clause-room c =
+pub put_string-end-requires : goal.put_string-end-requires
+put_string-end-requires c =
     omega (arith, c.requires.room, tbs_length c.args.signed.now c.args.payload.now, c.put-at.ensures.place, c.put_string-at.ensures.place, c.put-at-2.ensures.place, length_string c.args.signed.now)
 
 pub returns : goal.returns
