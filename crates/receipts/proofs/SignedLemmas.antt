@@ -17,7 +17,8 @@ use Rattle.cbor_core.specs.Encoding.{size_of, head_size, both, Writer, may_follo
 use Rattle.cbor_core.specs.Exact.{strict_text}
 use Rattle.cbor_core.specs.Fitting.{UintText, NintText, BytesText, TextText}
 use Rattle.cbor_core.specs.Items.{uint_item, nint_item, bytes_item, text_item, map_item}
-use Rattle.cose_sign1.specs.Strings.{head_len, string_len, Writes}
+use Rattle.cbor_core.specs.Writes.{Writes}
+use Rattle.cose_sign1.specs.Strings.{head_len, string_len}
 use Rattle.cose_sign1.specs.Tbs.{signed_of, tbs_len}
 use Rattle.receipts.specs.Written.{claims_item, protected_entries, protected_item}
 use Rattle.receipts.specs.Fits.{NameFits}

@@ -7,17 +7,12 @@ ghost use Rattle.cose_sign1.specs.Tbs.{tbs_len as len_of_structure};
 ghost use Rattle.hss_keys.specs.Functions.{hss_verifies};
 ghost use Rattle.relying_party.specs.Accepts.{signs_root};
 
+use cbor_core::zeros;
 use cose_sign1::{sig_structure_is_one, to_be_signed_into, to_be_signed_len};
 use hss_keys::{Key60, hss_verify, key_laws};
 use merkle_tree::Hash;
 use receipts::{Receipt, tbs_into, tbs_len};
 use std::alloc::{AllocError, Global};
-
-fn zeros(alloc: Global, len: usize) -> Result<Vec<u8>, AllocError>
-    ensures { IfOk result (λ v. length v.items ≡ len) }
-{
-    vec![in alloc; 0; len]
-}
 
 /// Whether a signature verifies under a key.
 pub(crate) fn verifies(key: &Key60, sig: &[u8], msg: &[u8]) -> bool

@@ -2,17 +2,11 @@ ghost use Rattle.std.specs.Prelude.{◌≡◌, length, IfOk};
 ghost use Rattle.statement.specs.Statements.{Logs};
 
 use crate::stops::ParseStop;
-use cbor_core::Bytes;
+use cbor_core::{Bytes, zeros};
 use cose_sign1::{bare_into, bare_len};
-use std::alloc::{AllocError, Global};
+use std::alloc::Global;
 
 const MOST: usize = 4_194_304;
-
-fn zeros(alloc: Global, len: usize) -> Result<Vec<u8>, AllocError>
-    ensures { IfOk result (λ v. length v.items ≡ len) }
-{
-    vec![in alloc; 0; len]
-}
 
 /// The logged form: the strict encoding of tag 18 on the protected string as it was given, an empty map, the payload and the
 /// signature. `TooLarge` where it exceeds 4,194,304 bytes.
