@@ -6,7 +6,7 @@ use Rattle.std.specs.Char.{is_ascii_digit, digit_value}
 use Rattle.std.specs.Str.Parse.{digits_value, digits_value_after}
 use Rattle.std.proofs.lemmas.Str.Parse.{IsNumeralModel, numerals_by_value, digits_value_short, digit_at}
 use Rattle.std.proofs.lemmas.Bool.Decides.{nat_tests}
-use Rattle.http_wire.specs.Heads.{is_length}
+use Rattle.http_wire.specs.Heads.{are_digits}
 
 abbrev pub AreDigits : List ℕ → Type 0
 AreDigits ds = list_all is_ascii_digit ds ≡ true
@@ -40,5 +40,5 @@ one_digit_more ds i h below =
 pub digit_range : (ds : List ℕ) (i : ℕ) → AreDigits ds → i < length ds → (48 ≤ get_or ds i 0) × (get_or ds i 0 ≤ 57)
 digit_range ds i h below = let digit = digit_at ds i (own.to ds h) below in (digit.0, digit.1)
 
-pub length_parts : (v : List ℕ) → is_length v ≡ true → AreDigits v × (length v ≤ 10)
+pub length_parts : (v : List ℕ) → are_digits v ≡ true → AreDigits v × (length v ≤ 10)
 length_parts v e = (grind (arith, nat_tests), grind (arith, nat_tests))

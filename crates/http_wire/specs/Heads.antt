@@ -35,13 +35,17 @@ values_of name [] = []
 values_of name (p ∷ ps) = if str_eq_ignore_ascii_case p.0 name then p.1 ∷ values_of name ps else values_of name ps
 
 -- 1 to 10 digits
-abbrev pub is_length : List ℕ → Bool
-is_length v = nat_le 1 (length v) && nat_le (length v) 10 && list_all is_ascii_digit v
+abbrev pub are_digits : List ℕ → Bool
+are_digits v = nat_le 1 (length v) && nat_le (length v) 10 && list_all is_ascii_digit v
+
+-- the number that 1 to 10 digits say
+abbrev pub decimal_in : List ℕ → Option ℕ
+decimal_in v = if are_digits v then Some (digits_value 10 v) else None
 
 -- the length that the values say: none where there is no value, and no answer where they are malformed
 abbrev pub length_in : List (List ℕ) → Option (Option ℕ)
 length_in [] = Some None
-length_in (v ∷ []) = if is_length v then Some (Some (digits_value 10 v)) else None
+length_in (v ∷ []) = option_map Some (decimal_in v)
 length_in (v ∷ w ∷ more) = None
 
 abbrev pub is_some_value : List (List ℕ) → Bool

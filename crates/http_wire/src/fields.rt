@@ -1,13 +1,12 @@
 ghost use Rattle.std.specs.Prelude.{◌≡◌, ℕ, ◌+◌, ◌≤◌, ◌<◌, List, [], ◌∷◌, length, map, All, Some, None, IfSome, Bool, true, false, if◌then◌else◌};
 ghost use Rattle.std.specs.Str.{str_eq_ignore_ascii_case, bytes_eq};
-ghost use Rattle.std.specs.Str.Parse.{digits_value};
-ghost use Rattle.std.specs.List.{list_all, list_any};
-ghost use Rattle.std.specs.Char.{is_ascii_digit};
+ghost use Rattle.std.specs.List.{list_any};
 ghost use Rattle.httparse.specs.Spans.{IsHeaderWithin, IsWithin, header_bytes, span_bytes};
-ghost use Rattle.http_wire.specs.Heads.{values_of, is_length, length_in, framed, is_some_value, is_cose, has_close};
+ghost use Rattle.http_wire.specs.Heads.{values_of, length_in, framed, is_some_value, is_cose, has_close};
 ghost use Rattle.http_wire.specs.Fields.{IsNamed, IsOnce, IsFirst};
 ghost use Rattle.http_wire.specs.Tokens.{closes};
 
+use crate::digits::decimal_of;
 use crate::request::HeadFault;
 use crate::tokens::{asks_to_close, is_type, same_name};
 use httparse::spans::{HeaderSpan, Span};
@@ -82,29 +81,6 @@ fn one_asks_to_close(buf: &[u8], headers: &[HeaderSpan], name: &[u8]) -> bool
     false
 }
 
-fn all_digits(text: &[u8]) -> bool
-    ensures { result ≡ list_all is_ascii_digit text.now }
-{
-    text.iter().all(|b| b.is_ascii_digit())
-}
-
-fn is_number(text: &[u8]) -> bool
-    ensures { result ≡ is_length text.now }
-{
-    !text.is_empty() && text.len() <= 10 && all_digits(text)
-}
-
-fn number(text: &[u8]) -> u64
-    requires { is_length text.now ≡ true }
-    ensures { result ≡ digits_value 10 text.now }
-{
-    let mut n = 0u64;
-    for b in text {
-        n = n * 10 + u64::from(*b - b'0');
-    }
-    n
-}
-
 /// How many bytes the body has.
 pub fn frame(length: Option<Option<u64>>, coded: bool, posts: bool) -> Result<u64, HeadFault>
     ensures { result ≡ framed length coded posts }
@@ -125,7 +101,7 @@ pub fn length_of(buf: &[u8], named: Named) -> Option<Option<u64>>
 {
     match named {
         Named::Absent => Some(None),
-        Named::Once(span) if is_number(span.of(buf)) => Some(Some(number(span.of(buf)))),
-        _ => None,
+        Named::Once(span) => decimal_of(span.of(buf)).map(Some),
+        Named::Twice => None,
     }
 }

@@ -2,6 +2,7 @@
 #![tactic(auto)]
 
 mod answer;
+mod digits;
 mod fields;
 mod gather;
 mod head;
@@ -12,6 +13,7 @@ mod tokens;
 mod wire;
 
 pub use answer::{Allow, Answer, BodyKind};
+pub use digits::decimal_of;
 pub use laws::{phrases_stand, request_laws};
 pub use request::{HeadFault, Method, Next, Request, Stop};
 pub use response::write_response;

@@ -1,7 +1,7 @@
 -- The targets of requests, by the definition of a match that the router has.
 use Rattle.std.specs.Prelude.{ℕ, List, [], ◌∷◌, length, Bool, ◌&&◌, ◌==◌, nat_le, nat_lt, if◌then◌else◌, Option, None, Some, Result, Ok, Err, codes, slice_index, option_and_then}
 use Rattle.std.specs.List.{list_all}
-use Rattle.std.specs.Char.{is_ascii, is_ascii_digit}
+use Rattle.std.specs.Char.{is_ascii}
 use Rattle.std.specs.Str.Parse.{digits_value}
 use Rattle.matchit.specs.Rows.{RowsOf}
 use Rattle.matchit.specs.Seek.{first}
@@ -10,6 +10,7 @@ use Rattle.matchit.specs.Route.{Scan, parse_route}
 use Rattle.matchit.specs.Router.{RouteOf, route_from}
 use Rattle.matchit.specs.Params.{walk, named}
 use Rattle.matchit.specs.declared.error.InsertError.{InsertError}
+use Rattle.http_wire.specs.Heads.{are_digits}
 use Rattle.scitt_answers.specs.declared.routes.Row.{Row}
 use Rattle.scitt_answers.specs.declared.routes.Row.TheVariants as row
 use Rattle.scitt_answers.specs.declared.routes.Target.{Target}
@@ -23,10 +24,6 @@ path_of (b ∷ bs) = if b == 63 then [] else b ∷ path_of bs
 -- each byte is ASCII
 abbrev pub is_plain : List ℕ → Bool
 is_plain bytes = list_all is_ascii bytes
-
--- 1 to 10 digits
-abbrev pub are_digits : List ℕ → Bool
-are_digits text = nat_le 1 (length text) && nat_le (length text) 10 && list_all is_ascii_digit text
 
 -- a zero with more behind it
 abbrev pub leads_with_zero : List ℕ → Bool

@@ -1,6 +1,6 @@
 use Rattle.std.proofs.Common.{arith}
 use Rattle.http_wire.proofs.Numbers.{few_digits, one_digit_more, digit_range, length_parts}
-use Rattle.http_wire.proofs.fields.number.Goals as goal
+use Rattle.http_wire.proofs.digits.number.Goals as goal
 
 pub overflow_mul-n : goal.overflow_mul-n
 overflow_mul-n c =
