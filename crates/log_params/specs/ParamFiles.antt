@@ -14,10 +14,6 @@ use Rattle.registrar.specs.declared.words.Params.{Params}
 use Rattle.log_params.specs.declared.stop.ParamsStop.{ParamsStop}
 use Rattle.log_params.specs.declared.stop.ParamsStop.TheVariants.{Cbor, BadParams, OutOfMemory}
 
--- an HSS public key: a byte string of 60 bytes
-abbrev pub key_in : Item → Option (List ℕ)
-key_in item = option_and_then (λ key. if length key == 60 then Some key else None) (bytes_in item)
-
 -- one to three levels, each of height 5 or 10
 abbrev pub when_signing : List Level → Option (List Level)
 when_signing levels =

@@ -5,9 +5,10 @@ ghost use Rattle.cbor_core.specs.Items.{text_in};
 ghost use Rattle.log_replay.specs.Records.{any_holder_in};
 ghost use Rattle.log_params.specs.ParamFiles.{params_from, short_in, signing_levels_in, AnswersAs, Decoded, ReadsItem, params_file_in, params_of_parts};
 
-use crate::reading::{holder_of, levels_of, short_of, text_copied};
+use crate::reading::{levels_of, short_of};
 use crate::stop::ParamsStop;
 use cbor_core::{DecodeStop, Item, array_of, decode_strict_all, is_uint};
+use log_replay::{holder_of, text_copied};
 use registrar::Params;
 use std::alloc::{AllocError, Global};
 

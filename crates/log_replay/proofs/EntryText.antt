@@ -13,7 +13,7 @@ use Rattle.cbor_core.specs.Encoding.{size_of, both, Writer, spell_each, spell_pa
 use Rattle.cbor_core.specs.Exact.{strict_text}
 use Rattle.cbor_core.specs.Fitting.{UintText, BytesText}
 use Rattle.cbor_core.specs.Items.{uint_item, bytes_item, array_item}
-use Rattle.cose_sign1.specs.Strings.{Writes}
+use Rattle.cbor_core.specs.Writes.{Writes}
 use Rattle.log_replay.specs.Records.{entry_item}
 use Rattle.log_replay.specs.Spelling.{entry_front}
 

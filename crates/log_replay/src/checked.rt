@@ -13,7 +13,7 @@ ghost use Rattle.log_replay.specs.Spelling.{HasBytes};
 ghost use Rattle.log_replay.specs.Judging.{facts_of as facts_said, kind_of as kind_said, is_policy as is_policy_said, document_in, signed_text_of};
 
 use crate::keys::verifies;
-use cbor_core::{Bytes, Text, strict_items_are_spelled, strict_spelling_is_unique};
+use cbor_core::{Bytes, Text, strict_items_are_spelled, strict_spelling_is_unique, zeros};
 use cose_sign1::{sig_structure_is_one, to_be_signed_into, to_be_signed_len};
 use hss_keys::Key60;
 use policy_rules::{
@@ -64,12 +64,6 @@ fn facts_of(alloc: Global, statement: &Statement) -> Result<Facts, AllocError>
         content_type,
         payload_len: statement.payload.as_slice().len() as u64,
     })
-}
-
-pub(crate) fn zeros(alloc: Global, len: usize) -> Result<Vec<u8>, AllocError>
-    ensures { IfOk result (λ v. length v.items ≡ len) }
-{
-    vec![in alloc; 0; len]
 }
 
 fn put_structure(protected: &[u8], payload: &[u8], buf: &mut [u8])

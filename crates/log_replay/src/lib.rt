@@ -4,6 +4,7 @@
 mod checked;
 mod growth;
 mod hashing;
+mod holders;
 mod judging;
 mod keys;
 mod laws;
@@ -21,6 +22,7 @@ pub use checked::{Checked, check};
 pub use growth::{
     answer_laws, fitting_laws, growth_laws, home_laws, limit_laws, more_laws, record_laws,
 };
+pub use holders::{any_levels_of, holder_of, text_copied};
 pub use laws::{log_laws, state_laws};
 pub use parts::{BatchParts, EntryParts, Header};
 pub use reading::{entry_parts, read_batch};

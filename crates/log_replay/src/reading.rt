@@ -2,108 +2,19 @@
 
 ghost use Rattle.std.specs.Prelude.{◌≡◌, ◌==◌, ℕ, List, [], Some, None, length, if◌then◌else◌, ◌≢◌, IfOk, IfSome, IfNone, option_map, option_and_then};
 ghost use Rattle.cbor_core.specs.Items.{array_in};
-ghost use Rattle.lms_tree.specs.Types.{lms_type_of_code};
 ghost use Rattle.policy_rules.specs.Conditions.{each_onto};
 ghost use Rattle.log_replay.specs.Records.{any_holder_in, holder_from, holder_of_parts, level_by, level_from, level_in, levels_in, entries_array, header_from as header_by, batch_from, record_in, record_of_parts, one_entry as one_entry_of, batch_in, record_of, entry_in, parts_of, entry_of, entry_of_parts, parts_from};
 ghost use Rattle.cbor_core.specs.Items.{bytes_in, text_in, uint_in};
 ghost use Rattle.log_replay.specs.Seen.{record_seen, entry_seen, wants_memory};
 ghost use Rattle.statement.specs.Said.{said_of, logged_statement};
 
+use crate::holders::{any_levels_of, bytes_copied, holder_of, key_of, text_copied};
 use crate::parts::{BatchParts, Entry, EntryParts, Heading, Record};
-use cbor_core::{Bytes, Item, Text, array_of, bytes_of, is_uint, strict_of, text_of, uint_of};
-use hss_keys::Key60;
-use lms_ots::ots_type;
-use lms_tree::{Level, lms_type};
-use policy_rules::Holder;
-use sqlite_items::Items;
+use cbor_core::{Item, array_of, is_uint, strict_of, uint_of};
 use statement::{
     Blobs, ParseStop, Statement, logged_form_is_the_statement, parse, statements_have_one_answer,
 };
 use std::alloc::{AllocError, Global};
-
-fn text_copied(alloc: Global, item: &Item) -> Result<Option<Text>, AllocError>
-    ensures { IfOk result (λ text. text ≡ text_in item.now) }
-{
-    match text_of(item) {
-        Some(text) => Ok(Some(Text::from_str(alloc, text)?)),
-        None => Ok(None),
-    }
-}
-
-fn bytes_copied(alloc: Global, item: &Item) -> Result<Option<Bytes>, AllocError>
-    ensures { IfOk result (λ bytes. bytes ≡ bytes_in item.now) }
-{
-    match bytes_of(item) {
-        Some(bytes) => Ok(Some(Bytes::from_slice(alloc, bytes)?)),
-        None => Ok(None),
-    }
-}
-
-fn key_of(item: &Item) -> Option<Key60>
-    ensures { result ≡ option_and_then (λ key. if length key == 60 then Some key else None) (bytes_in item.now) }
-{
-    match bytes_of(item)?.as_array::<60>() {
-        Some(key) => Some(*key),
-        None => None,
-    }
-}
-
-fn holder_of(alloc: Global, item: &Item) -> Result<Option<Holder>, AllocError>
-    ensures { IfOk result (λ holder. holder ≡ any_holder_in item.now) }
-{
-    let Some([iss, kid, key]) = array_of(item) else {
-        return Ok(None);
-    };
-    let Some(iss) = text_copied(alloc, iss)? else {
-        return Ok(None);
-    };
-    let Some(kid) = bytes_copied(alloc, kid)? else {
-        return Ok(None);
-    };
-    match key_of(key) {
-        Some(key) => Ok(Some(Holder { iss, kid, key })),
-        None => Ok(None),
-    }
-}
-
-fn level_of_codes(lms: u64, ots: u64) -> Option<Level>
-    ensures { result ≡ level_by lms ots }
-{
-    let lms = lms_type(u32::try_from(lms).ok()?)?;
-    let ots = ots_type(u32::try_from(ots).ok()?)?;
-    Some(Level { lms, ots })
-}
-
-fn level_of(item: &Item) -> Option<Level>
-    ensures { result ≡ level_in item.now }
-{
-    let Some([lms, ots]) = array_of(item) else {
-        return None;
-    };
-    level_of_codes(uint_of(lms)?, uint_of(ots)?)
-}
-
-fn each_level(alloc: Global, items: &[Item]) -> Result<Option<Items<Level>>, AllocError>
-    ensures { IfOk result (λ levels. levels ≡ each_onto level_in [] items.now) }
-{
-    let mut levels = Items::new(alloc);
-    for item in items {
-        match level_of(item) {
-            Some(level) => levels.push(level)?,
-            None => return Ok(None),
-        }
-    }
-    Ok(Some(levels))
-}
-
-fn levels_of(alloc: Global, item: &Item) -> Result<Option<Items<Level>>, AllocError>
-    ensures { IfOk result (λ levels. levels ≡ levels_in item.now) }
-{
-    match array_of(item) {
-        Some(items) => each_level(alloc, items),
-        None => Ok(None),
-    }
-}
 
 fn each_blob(alloc: Global, items: &[Item]) -> Result<Option<Blobs>, AllocError>
     ensures { IfOk result (λ blobs. blobs ≡ each_onto bytes_in [] items.now) }
@@ -148,7 +59,7 @@ fn heading_of(
     let Some(key) = key_of(key) else {
         return Ok(None);
     };
-    let Some(levels) = levels_of(alloc, levels)? else {
+    let Some(levels) = any_levels_of(alloc, levels)? else {
         return Ok(None);
     };
     let Some(max_entries) = uint_of(max_entries) else {

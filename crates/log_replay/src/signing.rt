@@ -3,8 +3,7 @@
 ghost use Rattle.std.specs.Prelude.{◌≡◌, ◌≤◌, length, IfOk};
 ghost use Rattle.receipts.specs.Signed.{signed_text};
 
-use crate::checked::zeros;
-use cbor_core::{Bytes, Text};
+use cbor_core::{Bytes, Text, zeros};
 use receipts::{tbs_into, tbs_len};
 use statement::Hash;
 use std::alloc::{AllocError, Global};

@@ -26,7 +26,7 @@ ghost use Rattle.registrar.specs.Ready.{IsNeeded, IsSealed, IsShort};
 
 use crate::registrar::Registrar;
 use crate::writing::{Batch, Needed};
-use cbor_core::{Bytes, EncodeStop, Text, strict_text_is_exact};
+use cbor_core::{Bytes, EncodeStop, Text, strict_text_is_exact, zeros};
 use hss_keys::{Signer, key_laws, levels_law};
 use log_replay::{
     Checked, Header, State, answer_laws, batch_body, entry_bytes, entry_law, fitting_laws,
@@ -52,12 +52,6 @@ pub(crate) struct Writes {
 struct Sealed {
     batch: Batch,
     receipt: Bytes,
-}
-
-fn zeros(alloc: Global, len: usize) -> Result<Vec<u8>, AllocError>
-    ensures { IfOk result (λ v. length v.items ≡ len) }
-{
-    vec![in alloc; 0; len]
 }
 
 // The signature at an index on the text over a root of so many entries.
