@@ -1,5 +1,5 @@
 -- The protected map of a new statement has strict bytes, and not many.
-use Rattle.std.proofs.Common.{◌≡◌, ℕ, ◌≤◌, ◌<◌, ◌^◌, Bool, true, false, nat_lt, if◌then◌else◌, List, [], length, Option, Some, None, refl, ap, ◌∙◌, lt-ltb, le-leb, arith}
+use Rattle.std.proofs.Common.{◌≡◌, ℕ, ◌≤◌, ◌<◌, ◌^◌, true, List, [], length, Option, Some, None, refl, ap, ◌∙◌, lt-ltb, le-leb, arith}
 use Rattle.std.specs.Prelude.{IfSome}
 use Rattle.std.specs.Str.{is_utf8}
 use Rattle.std.proofs.lemmas.Bool.{and_from}
@@ -29,17 +29,10 @@ size_small Two = omega arith
 size_small Four = omega arith
 size_small Eight = omega arith
 
-one_of_five : (a b c d : Bool) → (if a then 1 else (if b then 2 else (if c then 3 else (if d then 5 else 9)))) ≤ 9
-one_of_five true b c d = omega arith
-one_of_five false true c d = omega arith
-one_of_five false false true d = omega arith
-one_of_five false false false true = omega arith
-one_of_five false false false false = omega arith
-
 -- the head of a byte string
 pub head_short : (n : ℕ) → head_len n ≤ 9
 unfolding head_len
-head_short n = one_of_five (nat_lt n 24) (nat_lt n (2 ^ 8)) (nat_lt n (2 ^ 16)) (nat_lt n (2 ^ 32))
+head_short n = size_small (size_of n)
 
 -- the lengths of the names
 pub record Short (iss sub type : List ℕ) : Type 0 where

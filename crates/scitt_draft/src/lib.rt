@@ -11,5 +11,6 @@ mod within;
 
 pub use claims::Claims;
 pub use keys::{Named, governor_levels, issuer_levels, service_levels};
-pub use signing::make_statement;
+pub use protecting::protected_string;
+pub use signing::{kid_of, make_statement};
 pub use stated::Parties;

@@ -75,8 +75,8 @@ fn protected_item(alloc: Global, claims: &Claims<'_>, kid: &[u8]) -> Result<Item
     })
 }
 
-// The protected string: the strict bytes of its map.
-pub(crate) fn protected(
+/// The protected string of these claims under a key of this name: the strict bytes of its map (RFC 9052, 3.1).
+pub fn protected_string(
     alloc: Global,
     claims: &Claims<'_>,
     kid: &[u8; 32],

@@ -10,8 +10,8 @@ ghost use Rattle.cose_sign1.specs.Message.{bare_text, bare_len as len_of_bare};
 ghost use Rattle.scitt_draft.specs.Drafts.{claimed, names_fit as are_names_fit, statement_by};
 
 use crate::claims::Claims;
-use crate::protecting::protected;
-use cbor_core::{Bytes, strict_spelling_is_unique};
+use crate::protecting::protected_string;
+use cbor_core::{Bytes, strict_spelling_is_unique, zeros};
 use cose_sign1::{
     bare_into, bare_len, bare_message_is_one, sig_structure_is_one, to_be_signed_into,
     to_be_signed_len,
@@ -21,16 +21,10 @@ use sha2::{Digest, Sha256};
 use std::alloc::{AllocError, Global};
 
 /// The digest of a public key, by which it is named.
-pub(crate) fn kid_of(key: &Key60) -> [u8; 32]
+pub fn kid_of(key: &Key60) -> [u8; 32]
     ensures { result ≡ sha256 key.now }
 {
     Sha256::digest(key.as_slice())
-}
-
-fn zeros(alloc: Global, len: usize) -> Result<Vec<u8>, AllocError>
-    ensures { IfOk result (λ v. length v.items ≡ len) }
-{
-    vec![in alloc; 0; len]
 }
 
 fn put_structure(protected: &[u8], payload: &[u8], buf: &mut [u8])
@@ -124,7 +118,7 @@ pub fn make_statement(
     ensures seed { signer.new.seed ≡ signer.old.seed }
 {
     let kid = kid_of(&signer.public());
-    let protected = protected(alloc, claims, &kid)?;
+    let protected = protected_string(alloc, claims, &kid)?;
     let text = structure(alloc, protected.as_slice(), payload)?;
     let signature = signature(alloc, signer, index, &text)?;
     message(alloc, protected.as_slice(), payload, &signature)

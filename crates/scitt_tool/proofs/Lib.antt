@@ -7,8 +7,8 @@ pub mod Making
 pub mod Attaching
 pub mod Dues
 pub mod Runs
+pub mod Auditing
 pub mod Keys
-pub mod Protected
 pub mod Signing
 pub mod OneText
 pub mod SomeAttach

@@ -42,7 +42,7 @@ use Rattle.hss_keys.specs.Levels.{capacity}
 use Rattle.key_store.specs.declared.records.KeyHead.{KeyHead}
 use Rattle.key_store.specs.Keys.{IsKeyFile, IsFirstBad, key_of, reserved_of}
 use Rattle.key_store.specs.Stops.{HasBad}
-use Rattle.scitt_tool.specs.Claims.{Claims}
+use Rattle.scitt_draft.specs.Drafts.{Claims}
 use Rattle.scitt_tool.specs.Sign.{SignedBy, SignOf}
 use Rattle.lms_tree.specs.declared.types.Level.{Level}
 use Rattle.cose_sign1.specs.declared.sign1.Sign1.{Sign1}

@@ -18,10 +18,10 @@ use Rattle.statement.specs.Statements.{most_logged}
 use Rattle.scitt_tool.specs.declared.stops.ToolStop.{ToolStop}
 use Rattle.scitt_tool.specs.declared.draft.Draft.{Draft}
 use Rattle.scitt_tool.specs.Answer.{Answer}
-use Rattle.scitt_tool.specs.Claims.{Claims}
+use Rattle.scitt_draft.specs.Drafts.{Claims, names_fit, protected_by}
 use Rattle.scitt_tool.specs.Keygen.{kid_of}
 use Rattle.scitt_tool.specs.Outcome.{Kept, Keyed, KeyIs, IsOver}
-use Rattle.scitt_tool.specs.Sign.{names_fit, protected_by, logged_len, fits, refused_claim, SignedBy, SignOf, NotLoaded}
+use Rattle.scitt_tool.specs.Sign.{logged_len, fits, refused_claim, SignedBy, SignOf, NotLoaded}
 use Rattle.scitt_tool.specs.Drafts.{DraftOf, Drafts, SignsNext}
 use Rattle.scitt_tool.proofs.Keys.{is_key, key_is_synced}
 

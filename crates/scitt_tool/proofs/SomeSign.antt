@@ -22,10 +22,10 @@ use Rattle.key_store.proofs.LevelLemmas.{levels_true}
 use Rattle.key_store.proofs.ListLemmas.{reserved_next, reserved_first}
 use Rattle.statement.specs.Statements.{most_logged, Logged}
 use Rattle.scitt_tool.specs.Answer.{done, refused, exhausted}
-use Rattle.scitt_tool.specs.Claims.{Claims}
+use Rattle.scitt_draft.specs.Drafts.{Claims, names_fit, protected_by}
 use Rattle.scitt_tool.specs.Keygen.{kid_of}
 use Rattle.scitt_tool.specs.Outcome.{Outcome, Keyed, plain}
-use Rattle.scitt_tool.specs.Sign.{names_fit, protected_by, logged_len, fits, signature_at, refused_claim, SignedBy, SignOf}
+use Rattle.scitt_tool.specs.Sign.{logged_len, fits, signature_at, refused_claim, SignedBy, SignOf}
 use Rattle.cose_sign1.specs.OneTbs.{tbs_of}
 
 abbrev Has : (Outcome → Type 0) → Type 0

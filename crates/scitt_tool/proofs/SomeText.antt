@@ -41,7 +41,7 @@ use Rattle.scitt_tool.specs.Outcome.{Outcome, Kept, Keyed, plain}
 use Rattle.scitt_tool.specs.Keygen.{KeygenOf, key_bytes, key_lines, public_of, head_from}
 use Rattle.lms_tree.specs.declared.types.Level.{Level}
 use Rattle.scitt_tool.specs.ToolText.{first, second, Plain, Judged, CommandText, AllBytes, PlaysNothing, SomeText}
-use Rattle.scitt_tool.specs.Claims.{Claims}
+use Rattle.scitt_draft.specs.Drafts.{Claims}
 use Rattle.scitt_tool.specs.Attach.{AttachOf}
 use Rattle.scitt_tool.specs.Sign.{SignOf}
 use Rattle.generator.specs.declared.generating.Summary.{Summary}

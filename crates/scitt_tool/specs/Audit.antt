@@ -1,5 +1,5 @@
 -- `audit`: whether a log's bytes hold records that are well made.
-use Rattle.std.specs.Prelude.{◌≡◌, ℕ, ◌++◌, List, codes}
+use Rattle.std.specs.Prelude.{◌≡◌, ◌≤◌, ◌<◌, ℕ, ◌++◌, List, length, Option, Some, Result, Ok, Err, codes}
 use Rattle.std.specs.Fmt.{decimal}
 use Rattle.hex.specs.Hex.{encode_lower}
 use Rattle.log_replay.specs.declared.words.Why.{Why}
@@ -7,6 +7,8 @@ use Rattle.log_replay.specs.declared.words.Why.TheVariants as why
 use Rattle.auditor.specs.declared.words.Report.{Report}
 use Rattle.auditor.specs.declared.words.Report.TheVariants.{Clean, Bad, NoLog, Short}
 use Rattle.auditor.specs.Reports.{Reports}
+use Rattle.scitt_io.specs.declared.source.ReadStop.{ReadStop}
+use Rattle.scitt_io.specs.declared.source.ReadStop.TheVariants.{TooLong, ReadFault, OutOfMemory}
 use Rattle.scitt_tool.specs.Answer.{Answer, line, done, refused}
 
 -- the rule that a record fails, by its name
@@ -54,3 +56,10 @@ pub record AuditOf (bytes : List ℕ) (answer : Answer) : Type 0 where
   pub report : Report
   pub says : Reports bytes report
   pub is : answer ≡ report_answer report
+
+-- what a file of at most so many bytes says, or it is longer; nothing is said of a refused read
+abbrev pub AuditedOf : ℕ → Option (List ℕ) → Result Report ReadStop → Type 0
+AuditedOf limit content (Ok report) = (bytes : List ℕ) × (content ≡ Some bytes) × (length bytes ≤ limit) × Reports bytes report
+AuditedOf limit content (Err TooLong) = (bytes : List ℕ) × (content ≡ Some bytes) × (limit < length bytes)
+AuditedOf limit content (Err ReadFault) = Unit {0}
+AuditedOf limit content (Err OutOfMemory) = Unit {0}

@@ -2,8 +2,9 @@
 use Rattle.std.specs.Prelude.{ℕ, Bool, true, false, List, [], ◌∷◌, Option, Some, None, option_map, option_and_then, if◌then◌else◌, codes}
 use Rattle.std.specs.Str.{bytes_eq}
 use Rattle.lms_tree.specs.declared.types.Level.{Level}
-use Rattle.scitt_tool.specs.Claims.{Claims, claims_of}
-use Rattle.scitt_tool.specs.LevelNames.{levels_named}
+use Rattle.scitt_draft.specs.Drafts.{Claims}
+use Rattle.scitt_tool.specs.Claims.{claims_of}
+use Rattle.level_names.specs.LevelNames.{levels_named}
 use Rattle.scitt_tool.specs.Consistent.{size_named, root_named}
 use Rattle.scitt_tool.specs.Generate.{count_named}
 

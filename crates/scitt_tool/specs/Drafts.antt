@@ -1,6 +1,5 @@
 -- A statement before it is signed, and what its signing comes to.
-use Rattle.std.specs.Prelude.{◌≡◌, ◌≤◌, ◌<◌, ◌⊎◌, ◌+◌, ◌^◌, ℕ, min, List, length, true, false, Option, Some, None, IfSome}
-use Rattle.std.specs.Str.{is_utf8}
+use Rattle.std.specs.Prelude.{◌≡◌, ◌≤◌, ◌<◌, ◌⊎◌, ◌+◌, ℕ, min, List, length, true, false, Option, Some, None}
 use Rattle.scitt_disk.specs.Images.{Held}
 use Rattle.lms_tree.specs.declared.types.Level.{Level}
 use Rattle.hss_keys.specs.Levels.{capacity}
@@ -13,18 +12,9 @@ use Rattle.scitt_tool.specs.declared.draft.Draft.{Draft}
 use Rattle.scitt_tool.specs.declared.sign.Ready.{Ready}
 use Rattle.scitt_tool.specs.Answer.{Answer, done, exhausted}
 use Rattle.scitt_tool.specs.Outcome.{LeavesRecords}
-use Rattle.scitt_tool.specs.Claims.{Claims}
+use Rattle.scitt_draft.specs.Drafts.{Claims, protected_by}
 use Rattle.scitt_tool.specs.Keygen.{kid_of}
-use Rattle.scitt_tool.specs.Sign.{names_fit, protected_by, logged_len, is_fit, fits, signature_at}
-
--- claims whose names are within their limits, which are texts and moments of 64 bits
-pub record ClaimsWithin (claims : Claims) : Type 0 where
-  pub names : names_fit claims ≡ true
-  pub issuer : is_utf8 claims.issuer ≡ true
-  pub subject : is_utf8 claims.subject ≡ true
-  pub content_type : is_utf8 claims.content_type ≡ true
-  pub from : IfSome claims.not_before (λ m. m < 2 ^ 64)
-  pub until : IfSome claims.expires (λ m. m < 2 ^ 64)
+use Rattle.scitt_tool.specs.Sign.{logged_len, is_fit, fits, signature_at}
 
 -- the signer of a key, with its first index prepared
 abbrev pub signer_of : KeyHead → SignerKey

@@ -12,7 +12,6 @@ pub mod Policy
 pub mod ToolText
 pub mod Run
 pub mod Printed
-pub mod LevelNames
 pub mod Outcome
 pub mod Attach
 pub mod Audit

@@ -1,14 +1,10 @@
 -- What the code's commands mean.
 use Rattle.std.specs.Prelude.{ℕ, List, map}
 use Rattle.std.specs.Global.{Vec}
-use Rattle.scitt_tool.specs.declared.claims.Claims.{Claims as ReadClaims}
 use Rattle.scitt_tool.specs.declared.command.Command.{Command as Read}
 use Rattle.scitt_tool.specs.declared.command.Command.TheVariants.{Root as ReadRoot, Show as ReadShow, Policy as ReadPolicy, Audit as ReadAudit, Replay as ReadReplay, Generate as ReadGenerate, Keygen as ReadKeygen, Sign as ReadSign, Attach as ReadAttach, Verify as ReadVerify, Consistent as ReadConsistent}
-use Rattle.scitt_tool.specs.Claims.{Claims, claims_from}
+use Rattle.scitt_draft.specs.Drafts.{claimed}
 use Rattle.scitt_tool.specs.Command.{Command, Root, Show, Policy, Audit, Replay, Generate, Keygen, Sign, Attach, Verify, Consistent}
-
-abbrev pub claimed : ReadClaims → Claims
-claimed c = claims_from c.issuer.now c.subject.now c.content_type.now c.not_before c.expires
 
 abbrev pub meaning : Read → Command
 meaning (ReadRoot file) = Root file.now

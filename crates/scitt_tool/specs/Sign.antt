@@ -1,9 +1,6 @@
 -- `sign`: a statement of these claims on a payload, signed at the key's next index.
-use Rattle.std.specs.Prelude.{◌≡◌, ◌⊎◌, ◌<◌, ◌+◌, ℕ, min, ◌++◌, ◌&&◌, Bool, true, false, List, [], ◌∷◌, length, Option, Some, None, Result, Ok, Err, nat_le, codes}
+use Rattle.std.specs.Prelude.{◌≡◌, ◌⊎◌, ◌<◌, ◌+◌, ℕ, min, ◌++◌, ◌&&◌, Bool, true, false, List, length, Result, Ok, Err, nat_le, codes}
 use Rattle.std.specs.Fmt.{decimal}
-use Rattle.cbor_core.specs.declared.tree.Item.{Item}
-use Rattle.cbor_core.specs.Items.{uint_item, nint_item, bytes_item, text_item, map_item}
-use Rattle.cbor_core.specs.Exact.{strict_text}
 use Rattle.cose_sign1.specs.Strings.{string_len}
 use Rattle.cose_sign1.specs.OneTbs.{tbs_of}
 use Rattle.lms_tree.specs.declared.types.Level.{Level}
@@ -20,38 +17,9 @@ use Rattle.key_store.specs.Stops.{HasBad}
 use Rattle.scitt_journal.specs.Layout.{NoLog, Short}
 use Rattle.statement.specs.Statements.{most_logged, Logged}
 use Rattle.scitt_tool.specs.Answer.{Answer, done, refused, exhausted}
-use Rattle.scitt_tool.specs.Claims.{Claims}
+use Rattle.scitt_draft.specs.Drafts.{Claims, names_fit, protected_by}
 use Rattle.scitt_tool.specs.Keygen.{kid_of}
 use Rattle.scitt_tool.specs.Outcome.{Outcome, Keyed, plain, IsKey}
-
--- the issuer and the subject have 1 to 1,024 bytes, and the type at most 1,024
-abbrev pub is_name : List ℕ → Bool
-is_name text = nat_le 1 (length text) && nat_le (length text) 1024
-
-abbrev pub names_fit : Claims → Bool
-names_fit claims = is_name claims.issuer && (is_name claims.subject && nat_le (length claims.content_type) 1024)
-
--- a moment beside its label, where it is given
-abbrev pub moment_entry : ℕ → Option ℕ → List (Item × Item)
-moment_entry label None = []
-moment_entry label (Some moment) = (uint_item label, uint_item moment) ∷ []
-
--- the claims: {1: issuer, 2: subject, 4: expires, 5: not before} (RFC 8392, 4)
-abbrev pub claim_entries : Claims → List (Item × Item)
-claim_entries claims =
-    (uint_item 1, text_item claims.issuer) ∷ (uint_item 2, text_item claims.subject) ∷ (moment_entry 4 claims.expires ++ moment_entry 5 claims.not_before)
-
--- the protected map: {1: -46, 3: type, 4: kid, 15: claims} (RFC 9052, 3.1; RFC 9597, 2)
-abbrev pub protected_entries : Claims → List ℕ → List (Item × Item)
-protected_entries claims kid =
-    (uint_item 1, nint_item 45) ∷ (uint_item 3, text_item claims.content_type) ∷ (uint_item 4, bytes_item kid) ∷ (uint_item 15, map_item (claim_entries claims)) ∷ []
-
-abbrev pub protected_item : Claims → List ℕ → Item
-protected_item claims kid = map_item (protected_entries claims kid)
-
--- the protected string of claims under a key of this name: its strict bytes
-abbrev pub protected_by : Claims → List ℕ → List ℕ
-protected_by claims kid = strict_text (protected_item claims kid)
 
 -- how many bytes the logged form has, with a signature of so many
 abbrev pub logged_len : List ℕ → List ℕ → ℕ → ℕ

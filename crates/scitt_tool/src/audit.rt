@@ -1,24 +1,46 @@
-ghost use Rattle.std.specs.Prelude.{◌≡◌, IfOk};
+ghost use Rattle.std.specs.Prelude.{◌≡◌, ◌≤◌, ℕ, List, [], ◌∷◌, ◌++◌, Option, IfOk, OnOk, IsErrOf, is_some};
+ghost use Rattle.std.specs.Io.KnownBytes.{IsAtEnd};
 ghost use Rattle.std.specs.String.{string_bytes};
+ghost use Rattle.scitt_io.specs.Causes.{Rose};
 ghost use Rattle.scitt_tool.specs.Answer.{line};
-ghost use Rattle.scitt_tool.specs.Audit.{AuditOf, report_answer, count_text, end_text, clean_text, record_text, verdict_text, bad_text, rule_name as name_of_rule};
+ghost use Rattle.scitt_tool.specs.Reads.{TellsFile};
+ghost use Rattle.scitt_tool.specs.Audit.{AuditedOf, report_answer, count_text, end_text, clean_text, record_text, verdict_text, bad_text, rule_name as name_of_rule};
 
 use crate::answer::Answer;
 use crate::lines::push_line;
-use auditor::{Report, audit_bytes};
+use auditor::{AuditStop, Report, audit};
 use log_replay::Why;
 use merkle_tree::Hash;
+use scitt_io::{Folder, ReadStop};
 use std::alloc::{AllocError, Global};
 
-/// What `audit` answers of a file's bytes.
-pub(crate) fn audit(alloc: Global, bytes: &[u8]) -> Result<Answer, AllocError>
-    ensures { IfOk result (AuditOf bytes.now) }
+/// What the named file of at most so many bytes says as a log. One record of it is kept at a time.
+pub(crate) fn audit_file<F: Folder>(
+    alloc: Global,
+    files: &mut F,
+    name: &str,
+    limit: u64,
+) -> Result<Report, ReadStop>
+    ensures reads { (content : Option (List ℕ)) × TellsFile (F.files files.old) name.now content × AuditedOf limit content result }
+    ensures end { OnOk result (IsAtEnd (F.left files.new)) }
+    ensures fault { IsErrOf result ReadStop.ReadFault → Rose (F.faults files.old) (F.faults files.new) }
+    ensures no_fault { (IsErrOf result ReadStop.ReadFault → ⊥) → F.faults files.new ≡ F.faults files.old }
+    ensures later { F.faults files.old ≤ F.faults files.new }
+    ensures kept { F.files files.new ≡ F.files files.old }
+    ensures telling { is_some (F.left files.new) ≡ is_some (F.left files.old) }
+    ensures asked { F.asked files.new ≡ F.asked files.old ++ name.now ∷ [] }
 {
-    let report = audit_bytes(alloc, bytes)?;
-    report_answer(alloc, report)
+    files.choose(name)?;
+    match audit(alloc, files, limit) {
+        Ok(report) => Ok(report),
+        Err(AuditStop::ReadFault) => Err(ReadStop::ReadFault),
+        Err(AuditStop::TooLong) => Err(ReadStop::TooLong),
+        Err(AuditStop::OutOfMemory) => Err(ReadStop::OutOfMemory),
+    }
 }
 
-fn report_answer(alloc: Global, report: Report) -> Result<Answer, AllocError>
+/// How a report is printed.
+pub(crate) fn report_answer(alloc: Global, report: Report) -> Result<Answer, AllocError>
     ensures { IfOk result (λ answer. answer ≡ report_answer report) }
 {
     match report {

@@ -2,22 +2,13 @@
 ghost use Rattle.std.specs.Prelude.{◌≡◌};
 ghost use Rattle.std.specs.Option.{option_map};
 ghost use Rattle.scitt_tool.specs.Claims.{moment_of as moment_named, claims_of as claims_named};
-ghost use Rattle.scitt_tool.specs.Meaning.{claimed};
+ghost use Rattle.scitt_draft.specs.Drafts.{claimed};
 
 use crate::numbers::number_upto;
+use scitt_draft::Claims;
 
 /// The latest moment of a claim.
 const LATEST: u64 = 9_223_372_036_854_775_807;
-
-/// What a new statement is to claim.
-#[derive(Drop)]
-pub(crate) struct Claims<'a> {
-    pub(crate) issuer: &'a str,
-    pub(crate) subject: &'a str,
-    pub(crate) content_type: &'a str,
-    pub(crate) not_before: Option<u64>,
-    pub(crate) expires: Option<u64>,
-}
 
 // A moment, or `-` for none.
 fn moment_of(text: &str) -> Option<Option<u64>>

@@ -3,12 +3,13 @@ ghost use Rattle.std.specs.Option.{option_map, option_copied};
 ghost use Rattle.scitt_tool.specs.Command as said;
 ghost use Rattle.scitt_tool.specs.Meaning.{meaning};
 
-use crate::claims::{Claims, claims_of};
+use crate::claims::claims_of;
 use crate::consistent::{root_named, size_named};
 use crate::generate::{Count, count_named};
-use crate::levels::levels_named;
 use hss_keys::Levels;
+use level_names::levels_named;
 use merkle_tree::Hash;
+use scitt_draft::Claims;
 use scitt_io::Words;
 
 /// A command with its arguments.

@@ -1,31 +1,21 @@
 // A statement before it is signed.
-ghost use Rattle.std.specs.Prelude.{◌≡◌, ◌≤◌, ◌++◌, length, IfOk, OnOk, true};
+
+ghost use Rattle.std.specs.Prelude.{◌≡◌, ◌≤◌, length, IfOk, true};
 ghost use Rattle.sha2.specs.Sha256.{sha256};
 ghost use Rattle.hss_keys.specs.Signers.{hss_sig_len};
 ghost use Rattle.hss_keys.specs.Signing.{hss_public, hss_sig};
-ghost use Rattle.cbor_core.specs.Items.{uint_item, text_item, map_item};
 ghost use Rattle.cbor_core.specs.Limits.{longest_string};
 ghost use Rattle.cose_sign1.specs.OneTbs.{tbs_of};
 ghost use Rattle.cose_sign1.specs.Tbs.{tbs_len};
-ghost use Rattle.scitt_tool.specs.Meaning.{claimed};
-ghost use Rattle.scitt_tool.specs.Sign.{names_fit as are_names_fit, moment_entry, claim_entries, protected_item as whole_protected, protected_by};
+ghost use Rattle.scitt_draft.specs.Drafts.{claimed, names_fit as are_names_fit};
 ghost use Rattle.scitt_tool.specs.Drafts.{IsDraft, DraftOf, Drafts, SaysStatement};
 
 use crate::answer::Answer;
-use crate::claims::Claims;
-use crate::keygen::kid_of;
-use crate::within::claims_are_within;
-use cbor_core::{
-    Bytes, EncodeStop, Item, Node, Text, strict_item_by_kind, strict_items_are_spelled,
-    strict_len_by_kind, strict_text_is_exact,
-};
+use cbor_core::{Bytes, zeros};
 use cose_sign1::{bare_into, bare_len, sig_structure_is_one, to_be_signed_into, to_be_signed_len};
 use hss_keys::Signer;
-use sqlite_items::Items;
+use scitt_draft::{Claims, kid_of, protected_string};
 use std::alloc::{AllocError, Global};
-
-/// The most bytes that an issuer or a subject has.
-const LONGEST_NAME: usize = 1024;
 
 /// The most bytes that a statement's logged form has.
 const MOST: usize = 4_194_304;
@@ -37,103 +27,6 @@ pub(crate) struct Draft {
     text: Vec<u8>,
     signature: Vec<u8>,
     statement: Vec<u8>,
-}
-
-/// Whether the texts of the claims are within their limits.
-pub(crate) fn names_fit(claims: &Claims<'_>) -> bool
-    ensures { result ≡ are_names_fit (claimed claims.now) }
-{
-    !claims.issuer.is_empty()
-        && claims.issuer.len() <= LONGEST_NAME
-        && !claims.subject.is_empty()
-        && claims.subject.len() <= LONGEST_NAME
-        && claims.content_type.len() <= LONGEST_NAME
-}
-
-fn number(n: u64) -> Item
-    ensures { result ≡ uint_item n }
-{
-    Item {
-        node: Node::Uint(n),
-    }
-}
-
-fn text(alloc: Global, text: &str) -> Result<Item, AllocError>
-    ensures { IfOk result (λ item. item ≡ text_item text.now) }
-{
-    Ok(Item {
-        node: Node::Text(Text::from_str(alloc, text)?),
-    })
-}
-
-fn push_moment(
-    pairs: &mut Items<(Item, Item)>,
-    label: u64,
-    moment: Option<u64>,
-) -> Result<(), AllocError>
-    ensures { OnOk result (pairs.new ≡ pairs.old ++ moment_entry label moment) }
-{
-    if let Some(moment) = moment {
-        pairs.push((number(label), number(moment)))?;
-    }
-    Ok(())
-}
-
-fn claims_item(alloc: Global, claims: &Claims<'_>) -> Result<Item, AllocError>
-    ensures { IfOk result (λ item. item ≡ map_item (claim_entries (claimed claims.now))) }
-{
-    let mut pairs = Items::new(alloc);
-    pairs.push((number(1), text(alloc, claims.issuer)?))?;
-    pairs.push((number(2), text(alloc, claims.subject)?))?;
-    push_moment(&mut pairs, 4, claims.expires)?;
-    push_moment(&mut pairs, 5, claims.not_before)?;
-    Ok(Item {
-        node: Node::Map(pairs),
-    })
-}
-
-fn protected_item(alloc: Global, claims: &Claims<'_>, kid: &[u8]) -> Result<Item, AllocError>
-    ensures { IfOk result (λ item. item ≡ whole_protected (claimed claims.now) kid.now) }
-{
-    let alg = Item {
-        node: Node::Nint(45),
-    };
-    let kid = Item {
-        node: Node::Bytes(Bytes::from_slice(alloc, kid)?),
-    };
-    let mut pairs = Items::new(alloc);
-    pairs.push((number(1), alg))?;
-    pairs.push((number(3), text(alloc, claims.content_type)?))?;
-    pairs.push((number(4), kid))?;
-    pairs.push((number(15), claims_item(alloc, claims)?))?;
-    Ok(Item {
-        node: Node::Map(pairs),
-    })
-}
-
-// The protected string: the strict bytes of its map.
-fn protected(alloc: Global, claims: &Claims<'_>, kid: &[u8; 32]) -> Result<Bytes, AllocError>
-    requires { are_names_fit (claimed claims.now) ≡ true }
-    ensures text { IfOk result (λ string. string ≡ protected_by (claimed claims.now) kid.now) }
-    ensures short { IfOk result (λ string. length string ≤ longest_string) }
-{
-    strict_item_by_kind();
-    strict_len_by_kind();
-    strict_items_are_spelled();
-    strict_text_is_exact();
-    claims_are_within(claims);
-    let item = protected_item(alloc, claims, kid.as_slice())?;
-    match cbor_core::encode(alloc, &item) {
-        Ok(bytes) => Ok(bytes),
-        Err(EncodeStop::OutOfMemory) => Err(AllocError),
-        Err(EncodeStop::NotStrict) => unreachable!(),
-    }
-}
-
-fn zeros(alloc: Global, len: usize) -> Result<Vec<u8>, AllocError>
-    ensures { IfOk result (λ v. length v.items ≡ len) }
-{
-    vec![in alloc; 0; len]
 }
 
 fn put_structure(protected: &[u8], payload: &[u8], buf: &mut [u8])
@@ -200,7 +93,7 @@ pub(crate) fn make_draft(
         (sha256 (hss_public signer.now.levels signer.now.id signer.now.seed)) signer.now.levels payload.now) }
 {
     let kid = kid_of(&signer.public());
-    let protected = protected(alloc, claims, &kid)?;
+    let protected = protected_string(alloc, claims, &kid)?;
     draft_of(alloc, protected, payload, signer.sig_len())
 }
 

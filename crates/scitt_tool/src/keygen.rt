@@ -1,6 +1,5 @@
 ghost use Rattle.std.specs.Prelude.{◌≡◌, ◌≤◌, ◌⊎◌, ◌++◌, ℕ, List, [], length, take, drop, IsTrue, IfOk, IfErr, OnOk, is_some, IfSome, Ok, Err, None};
 ghost use Rattle.std.specs.String.{string_bytes};
-ghost use Rattle.sha2.specs.Sha256.{sha256};
 ghost use Rattle.hss_keys.specs.Signing.{hss_public};
 ghost use Rattle.key_store.specs.Stops.{ExplainsMake};
 ghost use Rattle.scitt_tool.specs.Answer.{done};
@@ -19,9 +18,9 @@ use hss_keys::{Key60, Levels};
 use key_store::{KeyFile, KeyStop};
 use lms_ots::Hash;
 use scitt_disk::Disk;
+use scitt_draft::kid_of;
 use scitt_io::Source;
 use scitt_journal::Refused;
-use sha2::{Digest, Sha256};
 use std::alloc::{AllocError, Global};
 
 /// What `keygen` answers of random bytes and the key file's disk.
@@ -167,13 +166,6 @@ fn told<D: Disk>(alloc: Global, file: &KeyFile<D>) -> Result<Answer, ToolStop>
     let signer = file.signer(alloc)?;
     let text = lines(alloc, &signer.public())?;
     Ok(Answer::made(0, text))
-}
-
-/// The digest of a public key, by which it is named.
-pub(crate) fn kid_of(key: &Key60) -> Hash
-    ensures { result ≡ sha256 key.now }
-{
-    Sha256::digest(key.as_slice())
 }
 
 fn lines(alloc: Global, key: &Key60) -> Result<String, AllocError>

@@ -14,7 +14,6 @@ mod file;
 mod generate;
 mod keygen;
 mod laws;
-mod levels;
 mod lines;
 mod numbers;
 mod policy;
@@ -28,7 +27,6 @@ mod sign;
 mod stop;
 mod stops;
 mod verify;
-mod within;
 
 pub use answer::Status;
 pub use laws::words_and_files_have_one_text;

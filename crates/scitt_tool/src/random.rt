@@ -4,14 +4,9 @@ ghost use Rattle.std.specs.Io.KnownBytes.{Consumes, IsAtEnd};
 ghost use Rattle.scitt_tool.specs.Stopping.{CountsRandom};
 
 use crate::stops::ToolStop;
+use cbor_core::zeros;
 use scitt_io::{Source, read_behind};
-use std::alloc::{AllocError, Global};
-
-fn zeros(alloc: Global, len: usize) -> Result<Vec<u8>, AllocError>
-    ensures { IfOk result (λ v. length v.items ≡ len) }
-{
-    vec![in alloc; 0; len]
-}
+use std::alloc::Global;
 
 /// The next bytes of the source, so many, or fewer only where it ended. No more are taken.
 pub(crate) fn read_front<S: Source>(

@@ -6,21 +6,21 @@ ghost use Rattle.hss_keys.specs.Signers.{hss_sig_len};
 ghost use Rattle.hss_keys.specs.Signing.{hss_sig};
 ghost use Rattle.cose_sign1.specs.OneTbs.{tbs_of};
 ghost use Rattle.scitt_tool.specs.Answer.{exhausted as exhausted_answer, line};
-ghost use Rattle.scitt_tool.specs.Meaning.{claimed};
+ghost use Rattle.scitt_draft.specs.Drafts.{claimed};
 ghost use Rattle.scitt_tool.specs.Outcome.{IsOver};
 ghost use Rattle.scitt_tool.specs.Sign.{SignOf, SignedBy, NotLoaded, refused_claim as claim_refused};
 ghost use Rattle.scitt_tool.specs.Drafts.{IsDraft, IsReady, SaysStatement, SignsNext, TakesNext, signer_of};
 ghost use Rattle.scitt_tool.specs.Stopping.{CountsKey};
 
 use crate::answer::Answer;
-use crate::claims::Claims;
-use crate::draft::{Draft, make_draft, names_fit};
+use crate::draft::{Draft, make_draft};
 use crate::ended::Ended;
 use crate::lines::push_line;
 use crate::stops::ToolStop;
 use hss_keys::Signer;
 use key_store::{KeyFile, KeyStop, TakeStop};
 use scitt_disk::Disk;
+use scitt_draft::Claims;
 use scitt_journal::Refused;
 use std::alloc::{AllocError, Global};
 
@@ -152,7 +152,7 @@ fn make_ready<D: Disk>(
 ) -> Result<Option<Ready>, AllocError>
     ensures { IfOk result (IsReady (claimed claims.now) file.now.head payload.now) }
 {
-    if !names_fit(claims) {
+    if !claims.names_fit() {
         return Ok(None);
     }
     let signer = file.signer(alloc)?;

@@ -5,7 +5,7 @@ use Rattle.cbor_core.specs.declared.words.EncodeStop.TheVariants.{NotStrict}
 use Rattle.cbor_core.specs.Encoding.{text_or, Encoded}
 use Rattle.scitt_draft.specs.Drafts.{claimed, protected_item}
 use Rattle.scitt_draft.proofs.Protected.{protected_strict, protected_short, text-length}
-use Rattle.scitt_draft.proofs.protecting.protected.Goals as goal
+use Rattle.scitt_draft.proofs.protecting.protected_string.Goals as goal
 
 pub returns-in-Ok-clause-short : goal.returns-in-Ok-clause-short
 returns-in-Ok-clause-short c =

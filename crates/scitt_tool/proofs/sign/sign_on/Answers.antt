@@ -1,4 +1,4 @@
-use Rattle.scitt_tool.specs.Meaning.{claimed}
+use Rattle.scitt_draft.specs.Drafts.{claimed}
 use Rattle.scitt_tool.proofs.Signing.{loaded_over, unloaded_over}
 use Rattle.scitt_tool.proofs.sign.sign_on.Goals as goal
 

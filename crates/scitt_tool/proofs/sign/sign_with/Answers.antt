@@ -1,6 +1,6 @@
 use Rattle.std.proofs.Common.{Option, subst}
 use Rattle.scitt_tool.specs.declared.sign.Ready.{Ready}
-use Rattle.scitt_tool.specs.Meaning.{claimed}
+use Rattle.scitt_draft.specs.Drafts.{claimed}
 use Rattle.scitt_tool.specs.Drafts.{IsReady}
 use Rattle.scitt_tool.proofs.Signing.{signed_over}
 use Rattle.scitt_tool.proofs.sign.sign_with.Goals as goal
