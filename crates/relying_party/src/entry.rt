@@ -4,7 +4,7 @@ ghost use Rattle.std.specs.Prelude.{◌≡◌, ◌+◌, ◌≤◌, ◌<◌, ◌^
 ghost use Rattle.merkle_tree.specs.Mth.{leaf_hash as hash_of_leaf};
 ghost use Rattle.relying_party.specs.Entries.{entry_bytes, entry_text, entry_len as len_of_entry};
 
-use cbor_core::{head_len, put, put_head, strict_item_by_kind};
+use cbor_core::{head_len, put, put_head, strict_item_by_kind, zeros};
 use merkle_tree::{Hash, leaf_hash};
 use std::alloc::{AllocError, Global};
 
