@@ -1,15 +1,14 @@
 // What the program ends with.
 ghost use Rattle.std.specs.Prelude.{◌≡◌, ◌≢◌, IfOk, IfErr, IsTrue};
-ghost use Rattle.std.specs.Process.{exit_status};
 ghost use Rattle.scitt_tool.specs.Asking.{AsksFront};
 ghost use Rattle.scitt_tool.specs.Command.{command_of, files_read};
 ghost use Rattle.scitt_tool.specs.Run.{Answers};
 
+use command_line::Status;
 use scitt_disk::Disk;
 use scitt_io::{Folder, OutOfMemory, Sink, Source, Words};
-use scitt_tool::{Status, run_tool};
+use scitt_tool::run_tool;
 use std::alloc::Global;
-use std::process::ExitCode;
 
 /// There is no memory for the name of the key file.
 const NO_MEMORY: Status = 5;
@@ -41,11 +40,4 @@ pub fn status_of<F: Folder, D: Disk + Drop, S: Source, K: Sink>(
         },
         Err(status) => status,
     }
-}
-
-/// The exit code of a status.
-pub fn exit_code(status: Status) -> ExitCode
-    ensures { exit_status result ≡ status }
-{
-    ExitCode::from(status)
 }

@@ -2,7 +2,6 @@ pub mod Numbers
 pub mod Command
 pub mod Meaning
 pub mod Answer
-pub mod Text
 pub mod Reads
 pub mod FaultText
 pub mod Root

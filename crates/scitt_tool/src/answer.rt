@@ -1,101 +1,12 @@
-ghost use Rattle.std.specs.Prelude.{◌≡◌, ◌≤◌, ℕ, List, is_some};
-ghost use Rattle.scitt_tool.specs.Answer.{Says, words_refused, unread, too_long, disk_fault};
+// Answers that are those of this tool.
+
+ghost use Rattle.std.specs.Prelude.{◌≡◌};
+ghost use Rattle.scitt_tool.specs.Answer.{too_long, disk_fault};
 ghost use Rattle.scitt_tool.specs.Command.{limit_of};
 ghost use Rattle.scitt_tool.specs.Meaning.{meaning};
 
 use crate::command::Command;
-use cbor_core::Bytes;
-use scitt_io::{Sink, write_all};
-use std::marker::Model;
-
-/// The exit status of the program.
-pub type Status = u8;
-
-/// What a command answers: a status, and lines of text, or bytes.
-#[derive(Drop)]
-pub(crate) struct Answer {
-    status: Status,
-    text: Text,
-}
-
-#[derive(Drop)]
-enum Text {
-    Fixed(&'static str),
-    Made(String),
-    Bytes(Bytes),
-}
-
-impl Model for Answer {
-    ghost use Rattle.scitt_tool.specs.Answer.{Answer as Answered};
-
-    ghost Value = { Answered };
-
-    ghost use Rattle.scitt_tool.specs.Text.{bytes_of};
-
-    ghost view = { λ a. record { status = a.status; text = bytes_of a.text } };
-}
-
-impl Answer {
-    ghost use Rattle.std.specs.String.{string_bytes};
-
-    pub fn fixed(status: Status, text: &'static str) -> Self
-        ensures { result ≡ record { status = status; text = text.now } }
-    {
-        Answer {
-            status,
-            text: Text::Fixed(text),
-        }
-    }
-
-    pub fn made(status: Status, text: String) -> Self
-        ensures { result ≡ record { status = status; text = string_bytes text } }
-    {
-        Answer {
-            status,
-            text: Text::Made(text),
-        }
-    }
-
-    pub fn bytes(status: Status, bytes: Bytes) -> Self
-        ensures { result ≡ record { status = status; text = bytes } }
-    {
-        Answer {
-            status,
-            text: Text::Bytes(bytes),
-        }
-    }
-
-    /// Writes the text. The answer's status stands where all of it was written, else 4.
-    pub fn say<K: Sink>(&self, out: &mut K) -> Status
-        ensures says { Says self.now (K.taken out.old) (K.taken out.new) (K.refused out.old) (K.refused out.new) result }
-        ensures later { K.refused out.old ≤ K.refused out.new }
-        ensures telling { is_some (K.taken out.new) ≡ is_some (K.taken out.old) }
-    {
-        let text = match &self.text {
-            Text::Fixed(text) => text.as_bytes(),
-            Text::Made(text) => text.as_bytes(),
-            Text::Bytes(bytes) => bytes.as_slice(),
-        };
-        match write_all(out, text) {
-            Ok(()) => self.status,
-            Err(_) => 4,
-        }
-    }
-}
-
-/// The words name no command.
-pub(crate) fn words_refused() -> Answer
-    ensures { result ≡ words_refused }
-{
-    Answer::fixed(2, "words refused\n")
-}
-
-/// A read was refused.
-pub(crate) fn unread() -> Answer
-    ensures { result ≡ unread }
-{
-    Answer::fixed(3, "read fault\n")
-}
+use command_line::Answer;
 
 /// A file that the command reads is longer than its limit.
 pub(crate) fn too_long(command: &Command<'_>) -> Answer

@@ -3,9 +3,9 @@ ghost use Rattle.statement.specs.declared.statement_type.Statement.{Statement};
 ghost use Rattle.statement.specs.Parsed.{StatementOf};
 ghost use Rattle.scitt_tool.specs.Attach.{AttachOf, proves_entry as is_of_entry, may_attach as may_be_attached, NoReceipt, NoRoom};
 
-use crate::answer::Answer;
 use crate::stop::refused_statement;
 use cbor_core::{strict_item_is_exact, whole_bytes_have_one_answer};
+use command_line::Answer;
 use cose_sign1::{Sign1Stop, messages_have_one_answer};
 use receipts::{Proof, ReceiptStop, decode};
 use statement::{ParseStop, parse};

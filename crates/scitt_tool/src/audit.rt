@@ -6,9 +6,9 @@ ghost use Rattle.scitt_tool.specs.Answer.{line};
 ghost use Rattle.scitt_tool.specs.Reads.{TellsFile};
 ghost use Rattle.scitt_tool.specs.Audit.{AuditedOf, report_answer, count_text, end_text, clean_text, record_text, verdict_text, bad_text, rule_name as name_of_rule};
 
-use crate::answer::Answer;
 use crate::lines::push_line;
 use auditor::{AuditStop, Report, audit};
+use command_line::Answer;
 use log_replay::Why;
 use merkle_tree::Hash;
 use scitt_io::{Folder, ReadStop};

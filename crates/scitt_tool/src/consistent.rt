@@ -3,9 +3,9 @@ ghost use Rattle.std.specs.String.{string_bytes};
 ghost use Rattle.scitt_tool.specs.Answer.{line};
 ghost use Rattle.scitt_tool.specs.Consistent.{ConsistentOf, result_answer, growth_text, size_named as size_of_word, root_named as root_of_word};
 
-use crate::answer::Answer;
 use crate::lines::push_line;
 use crate::numbers::number_upto;
+use command_line::Answer;
 use hex::FromHex;
 use merkle_tree::Hash;
 use relying_party::{ConsistencyResult, Trust, TrustStop, verify_consistency};

@@ -10,8 +10,8 @@ ghost use Rattle.cose_sign1.specs.Tbs.{tbs_len};
 ghost use Rattle.scitt_draft.specs.Drafts.{claimed, names_fit as are_names_fit};
 ghost use Rattle.scitt_tool.specs.Drafts.{IsDraft, DraftOf, Drafts, SaysStatement};
 
-use crate::answer::Answer;
 use cbor_core::{Bytes, zeros};
+use command_line::Answer;
 use cose_sign1::{bare_into, bare_len, sig_structure_is_one, to_be_signed_into, to_be_signed_len};
 use hss_keys::Signer;
 use scitt_draft::{Claims, kid_of, protected_string};

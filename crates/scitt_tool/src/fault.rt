@@ -3,8 +3,8 @@ ghost use Rattle.std.specs.String.{string_bytes};
 ghost use Rattle.scitt_tool.specs.FaultText.{why_text, fault_text};
 ghost use Rattle.scitt_tool.specs.Answer.{refused};
 
-use crate::answer::Answer;
 use cbor_core::{Fault, Why};
+use command_line::Answer;
 use std::alloc::{AllocError, Global};
 
 /// The name of a reason, as it is printed.

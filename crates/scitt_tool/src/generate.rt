@@ -4,9 +4,9 @@ ghost use Rattle.std.specs.Fmt.{decimal};
 ghost use Rattle.generator.specs.declared.generating.Summary.{Summary};
 ghost use Rattle.scitt_tool.specs.Generate.{GenerateOf, count_named as count_of_word, summary_lines};
 
-use crate::answer::Answer;
 use crate::lines::push_line;
 use crate::numbers::number_upto;
+use command_line::Answer;
 use generator::Summary;
 use std::alloc::{AllocError, Global};
 use std::marker::Model;

@@ -9,11 +9,11 @@ ghost use Rattle.scitt_tool.specs.Run.{JudgedOver};
 ghost use Rattle.scitt_tool.specs.Command as said;
 ghost use Rattle.scitt_tool.specs.Stopping.{CountsRandom, CountsKey};
 
-use crate::answer::Answer;
 use crate::ended::Ended;
 use crate::lines::push_line;
 use crate::random::read_front;
 use crate::stops::ToolStop;
+use command_line::Answer;
 use hss_keys::{Key60, Levels};
 use key_store::{KeyFile, KeyStop};
 use lms_ots::Hash;

@@ -28,6 +28,6 @@ mod stop;
 mod stops;
 mod verify;
 
-pub use answer::Status;
+pub use command_line::Status;
 pub use laws::words_and_files_have_one_text;
 pub use run::run_tool;

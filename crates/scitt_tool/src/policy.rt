@@ -2,9 +2,9 @@ ghost use Rattle.std.specs.Prelude.{◌≡◌, IfOk};
 ghost use Rattle.std.specs.String.{string_bytes};
 ghost use Rattle.scitt_tool.specs.Policy.{PolicyTextOf, policy_lines};
 
-use crate::answer::Answer;
 use crate::fault::refused_cbor;
 use crate::lines::{count_text, push_line};
+use command_line::Answer;
 use policy_rules::{Policy, PolicyStop, decode};
 use std::alloc::{AllocError, Global};
 

@@ -1,8 +1,8 @@
 ghost use Rattle.std.specs.Prelude.{◌≡◌, ◌≤◌, IfOk};
 ghost use Rattle.scitt_tool.specs.Replay.{PlayedOf, ReplayTextOf, heard, script_refused, status_of};
 
-use crate::answer::{Answer, Status};
 use cbor_core::Bytes;
+use command_line::{Answer, Status};
 use scitt_answers::SessionEnd;
 use scitt_script::{Replayed, Script, ScriptStop, decode};
 use std::alloc::{AllocError, Global};

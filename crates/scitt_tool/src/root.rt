@@ -5,9 +5,9 @@ ghost use Rattle.cbor_core.specs.Spells.{Spells};
 ghost use Rattle.cose_sign1.specs.Tbs.{byte_item};
 ghost use Rattle.scitt_tool.specs.Root.{RootOf, root_lines, strings_item, HoldsItems, HoldsStrings};
 
-use crate::answer::Answer;
 use crate::fault::refused_cbor;
 use cbor_core::{DecodeStop, Item, Node, decode_strict_all};
+use command_line::Answer;
 use merkle_tree::{Frontier, Hash, leaf_hash};
 use std::alloc::{AllocError, Global};
 

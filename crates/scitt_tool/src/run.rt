@@ -9,7 +9,7 @@ ghost use Rattle.scitt_tool.specs.ToolText.{first as first_read, second as secon
 ghost use Rattle.scitt_tool.specs.Run.{Answers, Completes, IsDue, JudgedOver};
 ghost use Rattle.scitt_tool.specs.Stopping.{Stopped, CountsRandom, CountsKey};
 
-use crate::answer::{Answer, Status, disk_fault, too_long, unread, words_refused};
+use crate::answer::{disk_fault, too_long};
 use crate::attach::attach;
 use crate::audit::{audit_file, report_answer};
 use crate::command::{Command, command_of};
@@ -24,6 +24,7 @@ use crate::show::show;
 use crate::sign::sign;
 use crate::stops::ToolStop;
 use crate::verify::verify;
+use command_line::{Answer, Status, unread, words_refused};
 use scitt_disk::Disk;
 use scitt_io::{Folder, ReadStop, Sink, Source, Words};
 use std::alloc::{AllocError, Global};

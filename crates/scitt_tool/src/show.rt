@@ -5,9 +5,9 @@ ghost use Rattle.scitt_tool.specs.Answer.{line};
 ghost use Rattle.cose_sign1.specs.Sign1Of.{begins_tagged};
 ghost use Rattle.scitt_tool.specs.Show.{ShowOf, tagged_text, alg_text, type_text, moment_text, header_lines, claim_lines, part_lines, show_lines};
 
-use crate::answer::Answer;
 use crate::lines::{count_text, push_line};
 use crate::stop::{label_text, printed_text, refused_statement};
+use command_line::Answer;
 use cose_sign1::{Label, tag_stands_first};
 use statement::{ContentType, ParseStop, Statement, parse};
 use std::alloc::{AllocError, Global};

@@ -12,11 +12,11 @@ ghost use Rattle.scitt_tool.specs.Sign.{SignOf, SignedBy, NotLoaded, refused_cla
 ghost use Rattle.scitt_tool.specs.Drafts.{IsDraft, IsReady, SaysStatement, SignsNext, TakesNext, signer_of};
 ghost use Rattle.scitt_tool.specs.Stopping.{CountsKey};
 
-use crate::answer::Answer;
 use crate::draft::{Draft, make_draft};
 use crate::ended::Ended;
 use crate::lines::push_line;
 use crate::stops::ToolStop;
+use command_line::Answer;
 use hss_keys::Signer;
 use key_store::{KeyFile, KeyStop, TakeStop};
 use scitt_disk::Disk;

@@ -5,10 +5,10 @@ ghost use Rattle.scitt_tool.specs.FaultText.{fault_text};
 ghost use Rattle.scitt_tool.specs.Printed.{printed};
 ghost use Rattle.scitt_tool.specs.StopText.{label_text, sign1_text, stop_text};
 
-use crate::answer::Answer;
 use crate::fault::why_text;
 use crate::printed::push_printed;
 use cbor_core::Fault;
+use command_line::Answer;
 use cose_sign1::{Label, Sign1Stop};
 use statement::ParseStop;
 use std::alloc::{AllocError, Global};

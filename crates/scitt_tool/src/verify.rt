@@ -3,8 +3,8 @@ ghost use Rattle.std.specs.String.{string_bytes};
 ghost use Rattle.scitt_tool.specs.Answer.{line, refused};
 ghost use Rattle.scitt_tool.specs.Verify.{VerifyOf, verdict_answer, check_text as text_of_check, place_text, entry_text, result_text, number_text, receipt_line, receipt_lines};
 
-use crate::answer::Answer;
 use crate::lines::push_line;
+use command_line::Answer;
 use relying_party::{ReceiptResult, StatementCheck, Trust, TrustStop, Verdict, verify_transparent};
 use std::alloc::{AllocError, Global};
 

@@ -1,13 +1,12 @@
 // What the program ends with.
 ghost use Rattle.std.specs.Prelude.{◌≡◌, ◌≢◌, ◌++◌, IfOk, IfErr};
-ghost use Rattle.std.specs.Process.{exit_status};
 ghost use Rattle.write_tool.specs.Command.{command_of, files_of};
 ghost use Rattle.write_tool.specs.Run.{Answers};
 
+use command_line::Status;
 use scitt_io::{Folder, Sink, Words};
 use std::alloc::Global;
-use std::process::ExitCode;
-use write_tool::{Status, run_write};
+use write_tool::run_write;
 
 /// What the call answers to these words, or the status that stands in their place; nothing is asked of the files then, and nothing is
 /// written.
@@ -27,11 +26,4 @@ pub fn status_of<F: Folder, K: Sink>(
         Ok(words) => run_write(alloc, &words, files, out),
         Err(status) => status,
     }
-}
-
-/// The exit code of a status.
-pub fn exit_code(status: Status) -> ExitCode
-    ensures { exit_status result ≡ status }
-{
-    ExitCode::from(status)
 }

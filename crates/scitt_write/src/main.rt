@@ -2,10 +2,9 @@
 #![tactic(auto)]
 
 mod ends;
-mod given;
 
-use ends::{exit_code, status_of};
-use given::words_given;
+use command_line::{exit_code, words_given};
+use ends::status_of;
 use scitt_io::{FileFolder, StdSink};
 use std::env;
 use std::process::ExitCode;

@@ -4,8 +4,8 @@ ghost use Rattle.std.specs.String.{string_bytes};
 ghost use Rattle.std.specs.Vec.Iter.{into_iter_items};
 ghost use Rattle.std.specs.IoError.{error_kind};
 
+use crate::answer::Status;
 use scitt_io::{OutOfMemory, Words};
-use scitt_tool::Status;
 use std::alloc::Global;
 use std::env::Args;
 use std::io;
