@@ -48,5 +48,5 @@ tenth, size = entries // 10, os.path.getsize(os.path.join(folder, "whole"))
 bare = checked / checks * 2 * entries
 print(f"audit {whole * 1e3:.0f} ms, {2 * entries} checks {bare * 1e3:.0f} ms, ratio {whole / bare:.2f}")
 print(f"an entry of the first tenth {first / tenth * 1e3:.3f} ms, of the last {(whole - last) / tenth * 1e3:.3f} ms, ratio {(whole - last) / first:.2f}")
-print(f"memory {memory * 1024} bytes, of which the file {size}")
+print(f"memory {memory * 1024} bytes; the file has {size}")
 PYTHON
