@@ -1,4 +1,3 @@
-pub mod Reading
 pub mod Strings
 pub mod Words
 pub mod Digits

@@ -1,29 +1,12 @@
 -- What is read of chosen files.
-use Rattle.std.specs.Prelude.{◌≡◌, ◌<◌, ◌≤◌, ◌⊎◌, ℕ, List, [], ◌∷◌, length, map, Option, Some, None, Result, Ok, Err, IfSome}
-use Rattle.std.specs.Global.{Vec}
-use Rattle.scitt_io.specs.declared.source.ReadStop.{ReadStop}
-use Rattle.scitt_io.specs.declared.source.ReadStop.TheVariants.{TooLong, ReadFault, OutOfMemory}
+use Rattle.std.specs.Prelude.{◌≡◌, ◌<◌, ◌≤◌, ◌⊎◌, ℕ, List, [], ◌∷◌, length, map, Option, Some, None, IfSome}
+pub use Rattle.command_line.specs.Reads.{FileOf, TellsFile, ReadOf}
 use Rattle.scitt_tool.specs.Answer.{unread, too_long}
 use Rattle.scitt_tool.specs.Outcome.{Outcome, plain}
-
--- the file of each name
-abbrev pub FileOf : Type 0
-FileOf = List ℕ → Option (List ℕ)
-
--- what a file of this name has, where files are told; none where it is missing
-abbrev pub TellsFile : Option FileOf → List ℕ → Option (List ℕ) → Type 0
-TellsFile told name content = IfSome told (λ file_of. file_of name ≡ content)
 
 -- the same of each of these names
 abbrev pub TellsFiles : Option FileOf → List (List ℕ) → List (Option (List ℕ)) → Type 0
 TellsFiles told names contents = IfSome told (λ file_of. map file_of names ≡ contents)
-
--- the file's bytes within this limit, or it is longer; nothing is said of a refused read
-abbrev pub ReadOf : ℕ → Option (List ℕ) → Result (Vec ℕ) ReadStop → Type 0
-ReadOf limit content (Ok bytes) = (content ≡ Some bytes.items) × (length bytes.items ≤ limit)
-ReadOf limit content (Err TooLong) = (bytes : List ℕ) × (content ≡ Some bytes) × (limit < length bytes)
-ReadOf limit content (Err ReadFault) = Unit {0}
-ReadOf limit content (Err OutOfMemory) = Unit {0}
 
 -- each of these is within the limit
 abbrev pub AllWithin : ℕ → List (List ℕ) → Type 0

@@ -3,32 +3,13 @@ ghost use Rattle.std.specs.Io.KnownBytes.{IsAtEnd};
 ghost use Rattle.scitt_io.specs.Causes.{Rose};
 ghost use Rattle.scitt_tool.specs.Command.{files_of, limit_of};
 ghost use Rattle.scitt_tool.specs.Meaning.{meaning, all_read};
-ghost use Rattle.scitt_tool.specs.Reads.{TellsFile, TellsFiles, ReadOf, ReadAll, StopsAt};
+ghost use Rattle.scitt_tool.specs.Reads.{TellsFiles, ReadAll, StopsAt};
 ghost use Rattle.scitt_tool.specs.Asking.{AsksFront};
 
 use crate::command::Command;
-use scitt_io::{Folder, ReadStop, read_to_end};
+use command_line::read_file;
+use scitt_io::{Folder, ReadStop};
 use std::alloc::Global;
-
-/// The whole of the named file, of at most so many bytes.
-fn read_file<F: Folder>(
-    alloc: Global,
-    files: &mut F,
-    name: &str,
-    limit: u64,
-) -> Result<Vec<u8>, ReadStop>
-    ensures reads { (content : Option (List ℕ)) × TellsFile (F.files files.old) name.now content × ReadOf limit content result }
-    ensures end { OnOk result (IsAtEnd (F.left files.new)) }
-    ensures fault { IsErrOf result ReadStop.ReadFault → Rose (F.faults files.old) (F.faults files.new) }
-    ensures no_fault { (IsErrOf result ReadStop.ReadFault → ⊥) → F.faults files.new ≡ F.faults files.old }
-    ensures later { F.faults files.old ≤ F.faults files.new }
-    ensures kept { F.files files.new ≡ F.files files.old }
-    ensures telling { is_some (F.left files.new) ≡ is_some (F.left files.old) }
-    ensures asked { F.asked files.new ≡ F.asked files.old ++ name.now ∷ [] }
-{
-    files.choose(name)?;
-    read_to_end(alloc, files, limit)
-}
 
 /// The whole of each of the command's files, in the order of the words. The first that can't be read, or that is longer than the
 /// limit, ends it, and those behind it aren't asked for.

@@ -1,6 +1,6 @@
 use Rattle.std.proofs.lemmas.Result.{err_from_is_err_and}
-use Rattle.scitt_tool.proofs.Reading.{some_content, read_chosen}
-use Rattle.scitt_tool.proofs.file.read_file.Goals as goal
+use Rattle.command_line.proofs.Reading.{some_content, read_chosen}
+use Rattle.command_line.proofs.file.read_file.Goals as goal
 
 pub returns-in_err-choose-clause-reads : goal.returns-in_err-choose-clause-reads
 returns-in_err-choose-clause-reads g c =

@@ -7,7 +7,7 @@ use Rattle.scitt_io.specs.Files.{ReadsFile}
 use Rattle.scitt_io.specs.Source.{TakesAll}
 use Rattle.scitt_io.specs.declared.source.ReadStop.{ReadStop}
 use Rattle.scitt_io.specs.declared.source.ReadStop.TheVariants.{TooLong, ReadFault, OutOfMemory}
-use Rattle.scitt_tool.specs.Reads.{FileOf, TellsFile, ReadOf}
+use Rattle.command_line.specs.Reads.{FileOf, TellsFile, ReadOf}
 
 -- some content is the one that is told, where files are told
 pub some_content : (told : Option FileOf) (name : List ℕ) → (content : Option (List ℕ)) × TellsFile told name content
