@@ -10,13 +10,12 @@ use Rattle.auditor.specs.declared.words.AuditStop.{AuditStop}
 use Rattle.auditor.specs.declared.words.AuditStop.TheVariants as audit
 use Rattle.auditor.specs.declared.words.Report.{Report}
 use Rattle.auditor.specs.declared.words.Report.TheVariants as report
-use Rattle.scitt_tool.specs.Answer.{Answer, too_long}
-use Rattle.scitt_tool.specs.Audit.{report_answer, AuditedOf}
-use Rattle.scitt_tool.specs.Command.{Command, Audit, command_of, limit_of}
-use Rattle.scitt_tool.specs.Outcome.{Kept}
+use Rattle.scitt_tool.specs.Answer.{Answer}
+use Rattle.scitt_tool.specs.Audit.{report_answer, log_limit, AuditedOf, AuditsFile, IsReported, IsPast}
+use Rattle.scitt_tool.specs.Command.{Audit, command_of}
 use Rattle.scitt_tool.specs.Reads.{FileOf, TellsFile, TellsFiles, StopsAt}
 use Rattle.scitt_tool.specs.Run.{Counts, Outside, JudgedOver, IsDue}
-use Rattle.scitt_tool.proofs.Dues.{plain_over, due_ok, due_too_long}
+use Rattle.scitt_tool.proofs.Dues.{plain_over, due_ok, due_too_long, due_unread}
 
 -- ---- what the named file gives
 
@@ -62,18 +61,21 @@ tells_one : (told : Option FileOf) (name : List ℕ) (content : Option (List ℕ
 tells_one None name content tells = tt
 tells_one (Some file_of) name content tells = ap (λ (c : Option (List ℕ)). c ∷ []) tells
 
-module _ (Tells : Type 0) (outside : Outside) (words : List (List ℕ)) (file : List ℕ) (before now : Counts) (some : command_of words ≡ Some (Audit file)) where
-  pub due_reported : (content : Option (List ℕ)) (report : Report) (answer : Answer) → TellsFile outside.files file content → AuditedOf (limit_of (Audit file)) content (Ok report) → answer ≡ report_answer report
-      → outside.new ≡ outside.old → now.files ≡ before.files → now.random ≡ before.random → now.key ≡ before.key → IsDue Tells outside words before now answer
-  due_reported content report answer tells came is held files random key =
-      let bytes = came.0 in
+module _ (Tells : Type 0) (outside : Outside) (words : List (List ℕ)) (file : List ℕ) (before now : Counts) (some : command_of words ≡ Some (Audit file)) (held : outside.new ≡ outside.old) (random : now.random ≡ before.random) (key : now.key ≡ before.key) where
+  due_reported : (answer : Answer) → IsReported outside.files file before.files now.files answer → IsDue Tells outside words before now answer
+  due_reported answer r =
+      let bytes = r.audited.0 in
       let over : JudgedOver Tells outside.old outside.new outside.random (Audit file) (bytes ∷ []) answer =
-      rw held (plain_over Tells outside.old outside.random (Audit file) (bytes ∷ []) answer (λ key_bytes random_bytes. (record { report = report; says = came.2.2; is = is }, refl))) in
-      due_ok Tells outside words (Audit file) before now some (content ∷ []) (bytes ∷ []) answer (tells_one outside.files file content tells) (λ empty. cc) (ap (λ (c : Option (List ℕ)). c ∷ []) came.1, (came.2.1, tt)) over
-      (inl (rw is (report_status report))) files random key
+      rw held (plain_over Tells outside.old outside.random (Audit file) (bytes ∷ []) answer (λ key_bytes random_bytes. (record { report = r.report; says = r.audited.2.2; is = r.is }, refl))) in
+      due_ok Tells outside words (Audit file) before now some (r.content ∷ []) (bytes ∷ []) answer (tells_one outside.files file r.content r.tells) (λ empty. cc) (ap (λ (c : Option (List ℕ)). c ∷ []) r.audited.1, (r.audited.2.1, tt)) over
+      (inl (rw r.is (report_status r.report))) r.calm random key
 
-  pub due_past : (content : Option (List ℕ)) (answer : Answer) → TellsFile outside.files file content → AuditedOf (limit_of (Audit file)) content (Err TooLong) → answer ≡ too_long (limit_of (Audit file))
-      → outside.new ≡ outside.old → now.files ≡ before.files → now.random ≡ before.random → now.key ≡ before.key → IsDue Tells outside words before now answer
-  due_past content answer tells came is held files random key =
-      let stop : StopsAt (limit_of (Audit file)) (content ∷ []) = subst (λ (c : Option (List ℕ)). StopsAt (limit_of (Audit file)) (c ∷ [])) (sym came.1) (inr came.2) in
-      due_too_long Tells outside words (Audit file) (content ∷ []) before now answer some (tells_one outside.files file content tells) (λ empty. cc) stop held files random key is
+  due_past : (answer : Answer) → IsPast outside.files file before.files now.files answer → IsDue Tells outside words before now answer
+  due_past answer p =
+      let stop : StopsAt log_limit (p.content ∷ []) = subst (λ (c : Option (List ℕ)). StopsAt log_limit (c ∷ [])) (sym p.longer.1) (inr p.longer.2) in
+      due_too_long Tells outside words (Audit file) (p.content ∷ []) before now answer some (tells_one outside.files file p.content p.tells) (λ empty. cc) stop held p.calm random key p.is
+
+  pub due_audit : (answer : Answer) → AuditsFile outside.files file before.files now.files answer → IsDue Tells outside words before now answer
+  due_audit answer (inl reported) = due_reported answer reported
+  due_audit answer (inr (inl past)) = due_past answer past
+  due_audit answer (inr (inr fault)) = due_unread Tells outside words (Audit file) before now some answer fault.0 fault.1 key

@@ -11,7 +11,7 @@ ghost use Rattle.scitt_tool.specs.Stopping.{Stopped, CountsRandom, CountsKey};
 
 use crate::answer::{disk_fault, too_long};
 use crate::attach::attach;
-use crate::audit::{audit_file, report_answer};
+use crate::audit::audit;
 use crate::command::{Command, command_of};
 use crate::consistent::consistent;
 use crate::file::read_files;
@@ -129,12 +129,7 @@ fn answer<F: Folder, D: Disk, S: Source>(
         return Ok(words_refused());
     };
     if let Command::Audit { file } = &command {
-        return match audit_file(alloc, files, file, command.limit()) {
-            Ok(report) => report_answer(alloc, report),
-            Err(ReadStop::TooLong) => Ok(too_long(&command)),
-            Err(ReadStop::ReadFault) => Ok(unread()),
-            Err(ReadStop::OutOfMemory) => Err(AllocError),
-        };
+        return audit(alloc, files, file);
     }
     match read_files(alloc, files, &command) {
         Ok(read) => stopped(judge(alloc, &command, &read, key, random)),
