@@ -1,30 +1,31 @@
-// The facts of all entries.
+// The facts of all entries, as counts.
 
-ghost use Rattle.std.specs.Prelude.{◌≡◌, ℕ, ◌<◌, ◌^◌, [], ◌∷◌, ◌++◌, length, Some, None, OnOk, OnErr, if◌then◌else◌};
+ghost use Rattle.std.specs.Prelude.{◌≡◌, ◌<◌, [], ◌∷◌, ◌++◌, length, None, OnOk, OnErr, if◌then◌else◌};
 ghost use Rattle.std.specs.Option.{is_some};
 ghost use Rattle.policy_eval.specs.Cases.{RoomFor};
 
+use crate::counts::Counts;
 use policy_rules::Facts;
 use std::alloc::{AllocError, Global};
 use std::marker::Model;
 
-/// The facts of all entries, in order, with room for one more.
+/// What conditions ask of the facts of all entries, with room for one entry more: how many entries each subject has, each issuer, and
+/// each subject with an issuer.
 #[derive(Drop)]
 pub struct History {
-    alloc: Global,
-    entries: Vec<Facts>,
-    next: Option<Facts>,
+    counts: Counts,
+    len: u32,
 }
 
 impl Model for History {
-    ghost use Rattle.std.specs.Prelude.{◌≡◌, ℕ, ◌<◌, ◌^◌, List, length, vec_len, vec_capacity, IfSome};
+    ghost use Rattle.std.specs.Prelude.{◌≡◌, length};
     ghost use Rattle.policy_eval.specs.History.{Entries};
 
     ghost Value = { Entries };
 
-    ghost view = { λ h. record { entries = h.entries.items; room = h.next } };
+    ghost view = { λ h. h.counts };
 
-    ghost invariant = { λ h. (IfSome h.next (λ _. vec_len h.entries < vec_capacity h.entries)) × (vec_len h.entries < 2 ^ 32) };
+    ghost invariant = { λ h. h.len ≡ length h.counts.entries };
 }
 
 impl History {
@@ -34,9 +35,8 @@ impl History {
         ensures room { result.room ≡ None }
     {
         History {
-            alloc,
-            entries: Vec::new(alloc),
-            next: None,
+            counts: Counts::new(alloc),
+            len: 0,
         }
     }
 
@@ -44,17 +44,14 @@ impl History {
     pub fn len(&self) -> u32
         ensures { result ≡ length self.now.entries }
     {
-        self.entries.len() as u32
+        self.len
     }
 
     /// How many entries may be pushed without memory.
     pub fn spare(&self) -> u32
         ensures { result ≡ (if is_some self.now.room then 1 else 0) }
     {
-        match &self.next {
-            Some(_) => 1,
-            None => 0,
-        }
+        if self.counts.has_room() { 1 } else { 0 }
     }
 
     /// Makes room for these facts.
@@ -64,10 +61,7 @@ impl History {
         ensures ok { OnOk result (RoomFor self.new facts.now) }
         ensures err { OnErr result (self.new.room ≡ self.old.room) }
     {
-        let copy = facts.copied(self.alloc)?;
-        self.entries.reserve(1)?;
-        self.next = Some(copy);
-        Ok(())
+        self.counts.reserve(facts)
     }
 
     /// Adds these facts as those of the next entry. It takes no memory.
@@ -77,15 +71,14 @@ impl History {
         ensures entries { self.new.entries ≡ self.old.entries ++ facts.now ∷ [] }
         ensures room { self.new.room ≡ None }
     {
-        if let Some(next) = self.next.take() {
-            self.entries.push(next).unwrap();
-        }
+        self.counts.push(facts);
+        self.len += 1;
     }
 
-    /// The entries' facts.
-    pub(crate) fn as_slice(&self) -> &[Facts]
-        ensures { result.now ≡ self.now.entries }
+    // The entries' counts.
+    pub(crate) fn counts(&self) -> &Counts
+        ensures { result.now.entries ≡ self.now.entries }
     {
-        self.entries.as_slice()
+        &self.counts
     }
 }

@@ -6,6 +6,7 @@ ghost use Rattle.std.specs.Option.{option_map_or};
 ghost use Rattle.policy_eval.specs.Cases.{case_of};
 ghost use Rattle.policy_eval.specs.Holds.{has_issuer, has_subject, is_named, holds as cond_holds, verdict as verdict_of};
 
+use crate::counts::Counts;
 use crate::history::History;
 use cbor_core::Text;
 use policy_rules::{Cond, CondNode, ContentKind, Facts, Policy, Rule};
@@ -31,30 +32,27 @@ fn begins(subject: &Text, text: &Text) -> bool
     subject.as_slice().starts_with(text.as_slice())
 }
 
-fn subject_stands(earlier: &[Facts], subject: &Text) -> bool
-    ensures { result ≡ list_any (has_subject subject.now) earlier.now }
+fn subject_stands(earlier: &Counts, subject: &Text) -> bool
+    ensures { result ≡ list_any (has_subject subject.now) earlier.now.entries }
 {
-    earlier.iter().any(|f| same(&f.subject, subject))
+    earlier.of_subject(subject) > 0
 }
 
-fn count_is_below(earlier: &[Facts], issuer: &Text, n: u64) -> bool
-    ensures { result ≡ nat_lt (count_by (has_issuer issuer.now) earlier.now) n }
+fn count_is_below(earlier: &Counts, issuer: &Text, n: u64) -> bool
+    ensures { result ≡ nat_lt (count_by (has_issuer issuer.now) earlier.now.entries) n }
 {
-    let count = earlier.iter().filter(|f| same(&f.issuer, issuer)).count();
-    (count as u64) < n
+    (earlier.of_issuer(issuer) as u64) < n
 }
 
-fn stands_with(earlier: &[Facts], subject: &Text, issuer: &Text) -> bool
-    ensures { result ≡ list_any (λ f. has_subject subject.now f && has_issuer issuer.now f) earlier.now }
+fn stands_with(earlier: &Counts, subject: &Text, issuer: &Text) -> bool
+    ensures { result ≡ list_any (λ f. has_subject subject.now f && has_issuer issuer.now f) earlier.now.entries }
 {
-    earlier
-        .iter()
-        .any(|f| same(&f.subject, subject) && same(&f.issuer, issuer))
+    earlier.of_both(subject, issuer) > 0
 }
 
 #[cycle(holding)]
-fn all_hold(conds: &[Cond], earlier: &[Facts], facts: &Facts) -> bool
-    ensures { result ≡ list_all (λ cond. cond_holds cond (case_of earlier.now facts.now)) conds.now }
+fn all_hold(conds: &[Cond], earlier: &Counts, facts: &Facts) -> bool
+    ensures { result ≡ list_all (λ cond. cond_holds cond (case_of earlier.now.entries facts.now)) conds.now }
 {
     for cond in conds {
         if !holds(cond, earlier, facts) {
@@ -65,8 +63,8 @@ fn all_hold(conds: &[Cond], earlier: &[Facts], facts: &Facts) -> bool
 }
 
 #[cycle(holding)]
-fn any_holds(conds: &[Cond], earlier: &[Facts], facts: &Facts) -> bool
-    ensures { result ≡ list_any (λ cond. cond_holds cond (case_of earlier.now facts.now)) conds.now }
+fn any_holds(conds: &[Cond], earlier: &Counts, facts: &Facts) -> bool
+    ensures { result ≡ list_any (λ cond. cond_holds cond (case_of earlier.now.entries facts.now)) conds.now }
 {
     for cond in conds {
         if holds(cond, earlier, facts) {
@@ -77,8 +75,8 @@ fn any_holds(conds: &[Cond], earlier: &[Facts], facts: &Facts) -> bool
 }
 
 #[cycle(holding)]
-fn holds(cond: &Cond, earlier: &[Facts], facts: &Facts) -> bool
-    ensures { result ≡ cond_holds cond.now (case_of earlier.now facts.now) }
+fn holds(cond: &Cond, earlier: &Counts, facts: &Facts) -> bool
+    ensures { result ≡ cond_holds cond.now (case_of earlier.now.entries facts.now) }
 {
     match &cond.node {
         CondNode::All(parts) => all_hold(parts.as_slice(), earlier, facts),
@@ -94,8 +92,8 @@ fn holds(cond: &Cond, earlier: &[Facts], facts: &Facts) -> bool
     }
 }
 
-fn first_rule(rules: &[Rule], earlier: &[Facts], facts: &Facts) -> (bool, u16)
-    ensures { result ≡ option_map_or (λ r. (r.admit, r.id)) (find (λ r. cond_holds r.cond (case_of earlier.now facts.now)) rules.now) (false, 0) }
+fn first_rule(rules: &[Rule], earlier: &Counts, facts: &Facts) -> (bool, u16)
+    ensures { result ≡ option_map_or (λ r. (r.admit, r.id)) (find (λ r. cond_holds r.cond (case_of earlier.now.entries facts.now)) rules.now) (false, 0) }
 {
     for rule in rules {
         if holds(&rule.cond, earlier, facts) {
@@ -109,5 +107,5 @@ fn first_rule(rules: &[Rule], earlier: &[Facts], facts: &Facts) -> (bool, u16)
 pub fn verdict(policy: &Policy, history: &History, facts: &Facts) -> (bool, u16)
     ensures { result ≡ verdict_of policy.now (case_of history.now.entries facts.now) }
 {
-    first_rule(policy.rules.as_slice(), history.as_slice(), facts)
+    first_rule(policy.rules.as_slice(), history.counts(), facts)
 }
