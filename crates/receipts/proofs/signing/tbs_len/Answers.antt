@@ -12,4 +12,12 @@ returns-clause-exact c = λ kid root fits len.
     c.sig_structure_is_one.ensures.len (strict_text (protected_item c.args.name.now kid c.args.size)) root
     ∙ ap (λ (p : List ℕ). tbs_len p root) (protected_is_text k.uint_text k.nint_text k.bytes_text k.text_text c.args.name.now kid c.args.size fits)
     ∙ signed_length c.args.name.now kid c.args.size root fits len
-    ∙ omega (arith, c.head_len.ensures.value, c.head_len-2.ensures.value, c.len.ensures, c.len-2.ensures, ap (λ (n : ℕ). head_size (size_of n)) c.len.ensures)
+    ∙ omega (
+      arith,
+      c.head_len.ensures.value,
+      c.head_len-2.ensures.value,
+      c.len.ensures,
+      c.len-2.ensures,
+      ap (λ (n : ℕ). head_size (size_of n)) c.len.ensures,
+      ap (λ (n : ℕ). head_size (size_of n)) c.from.ensures,
+    )
