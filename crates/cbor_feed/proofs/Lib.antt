@@ -1,1 +1,2 @@
 pub mod HeadSteps
+pub mod PartSteps
