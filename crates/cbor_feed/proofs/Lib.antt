@@ -1,2 +1,4 @@
 pub mod HeadSteps
 pub mod PartSteps
+pub mod HandSteps
+pub mod ChainSteps

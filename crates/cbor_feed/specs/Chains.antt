@@ -1,6 +1,7 @@
 -- Containers under work, one inside the other: what the bytes come to, whatever follows them. The innermost stands first.
 use Rattle.std.specs.Prelude.{◌≡◌, ◌≢◌, ℕ, ◌-◌, ◌<◌, ◌≤◌, List, [], ◌∷◌, ◌++◌, length, drop, Result, Ok, Err}
 use Rattle.cbor_core.specs.declared.words.Grammar.{Grammar}
+use Rattle.cbor_core.specs.declared.words.Why.{Why}
 use Rattle.cbor_core.specs.declared.words.Why.TheVariants.{Truncated}
 use Rattle.cbor_core.specs.declared.words.Fault.{Fault}
 use Rattle.cbor_core.specs.declared.heads.Stop.{Stop}
@@ -53,6 +54,7 @@ HasRisen g room (Tag n) held = Unit {0}
 -- the container that begins there comes to what its next part makes of it, whatever follows the bytes held
 pub record IsLevel (g : Grammar) (room begin : ℕ) (frame : Frame) (held : List ℕ) : Type 0 where
   pub room_left : 0 < room
+  pub order : begin ≤ frame.start
   pub start : frame.start ≤ length held
   pub spans : AreIn frame.parts held
   pub risen : HasRisen g (room - 1) frame.parts held
@@ -80,6 +82,12 @@ pub record IsCut (g : Grammar) (frames : List Frame) (held : List ℕ) : Type 0 
   pub chain : Chain g frames held
   pub place : start_of frames ≤ length held
   pub reads : read_in g (room_of frames) (drop (start_of frames) held) ≡ Err (record { left = length held - start_of frames; why = Truncated })
+
+-- a fault there, by whether it is that the bytes end
+abbrev pub IsStopped : ℕ → Why → Walked → Type 0
+IsStopped at why Cut = why ≡ Truncated
+IsStopped at why (Whole item end) = ⊥
+IsStopped at why (Stuck fault) = (fault ≡ record { at = at; why = why }) × (why ≢ Truncated)
 
 -- what a part came to that ends there
 abbrev pub HasSettled : Grammar → List Frame → List ℕ → ℕ → Settled → Type 0

@@ -1,6 +1,6 @@
 ghost use Rattle.std.specs.Prelude.{◌≡◌, ℕ, ◌≤◌, IfOk, length, reverse};
 ghost use Rattle.cbor_feed.specs.Chains.{opened_parts};
-ghost use Rattle.cbor_feed.specs.Chains.{start_of, Chain, IsRead, HasSettled, HasWalked};
+ghost use Rattle.cbor_feed.specs.Chains.{start_of, Chain, IsRead, IsStopped, HasSettled, HasWalked};
 
 use crate::containers::Container;
 use crate::frames::{Frame, Parts, Span, Step, frame_with};
@@ -57,6 +57,16 @@ fn parts_of(alloc: Global, container: Container) -> Parts
         ),
         Container::Tag(n) => Parts::Tag(n),
     }
+}
+
+fn stopped(at: usize, why: Why) -> Walked
+    ensures { IsStopped at why result }
+{
+    if why == Why::Truncated {
+        return Walked::Cut;
+    }
+    let at = at as u64;
+    Walked::Stuck(Fault { at, why })
 }
 
 // Hands an item, which ends there, to the innermost container, and what is whole by it to the one around it.
@@ -120,11 +130,7 @@ pub fn walk(
                     parts: parts_of(alloc, container),
                 })?;
             }
-            Err(PartStop::At(Why::Truncated)) => return Ok(Walked::Cut),
-            Err(PartStop::At(why)) => {
-                let at = at as u64;
-                return Ok(Walked::Stuck(Fault { at, why }));
-            }
+            Err(PartStop::At(why)) => return Ok(stopped(at, why)),
             Err(PartStop::Memory) => return Err(AllocError),
         }
     }
