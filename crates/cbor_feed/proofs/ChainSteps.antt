@@ -18,10 +18,12 @@ use Rattle.cbor_feed.specs.declared.frames.Parts.{Parts}
 use Rattle.cbor_feed.specs.declared.frames.Parts.TheVariants.{Items, Key, Value, Tag}
 use Rattle.cbor_feed.specs.declared.frames.Step.{Step}
 use Rattle.cbor_feed.specs.declared.frames.Step.TheVariants.{Goes, Whole, Stuck}
+use Rattle.cbor_feed.specs.declared.walk.Walked.{Walked}
+use Rattle.cbor_feed.specs.declared.walk.Walked.TheVariants.{Cut, Whole as WalkedWhole, Stuck as WalkedStuck}
 use Rattle.cbor_feed.specs.Frames.{span_in, AreIn, IsFreshIn, taken}
 use Rattle.cbor_feed.specs.Parts.{IsWhole, IsOpening}
 use Rattle.cbor_feed.specs.Containers.{read_container}
-use Rattle.cbor_feed.specs.Chains.{opened_parts, handed, room_of, start_of, HasRisen, IsLevel, Chain, IsRead, IsStuck, IsCut}
+use Rattle.cbor_feed.specs.Chains.{opened_parts, handed, room_of, start_of, HasRisen, IsLevel, Chain, IsRead, IsStuck, IsCut, IsStopped, HasWalked}
 use Rattle.cbor_feed.proofs.HandSteps.{span-more, front-span, opened-parts, opened-in, opened-risen, Says, parts-say, parts-fresh}
 use Rattle.std.proofs.lemmas.List.{take-append-drop}
 
@@ -77,13 +79,13 @@ chain-stop g (frame ∷ outer) held stop c e =
     chain-stop g outer held stop c.1 (level_here g (room_of outer) (start_of outer) frame held c.0
     ∙ ap (λ r. and_then r (handed g (read_in g (room_of outer - 1)) frame.parts held frame.start)) e)
 
-pub stuck-there : (g : Grammar) (frames : List Frame) (held : List ℕ) (at : ℕ) (why : Why) → Chain g frames held → start_of frames ≡ at → at ≤ length held → why ≢ Truncated
+stuck_there : (g : Grammar) (frames : List Frame) (held : List ℕ) (at : ℕ) (why : Why) → Chain g frames held → start_of frames ≡ at → at ≤ length held → why ≢ Truncated
     → read_in g (room_of frames) (drop at held) ≡ Err (record { left = length (drop at held); why = why }) → IsStuck g held (record { at = at; why = why })
-stuck-there g frames held at why c start within other e = record {
+stuck_there g frames held at why c start within other e = record {
   within = within;
   other = other;
   reads = chain-stop g frames held (record { left = length held - at; why = why }) c (
-    ap (λ (n : ℕ). read_in g (room_of frames) (drop n held)) start ∙ e ∙ ap (λ (n : ℕ). Err (record { left = n; why = why })) (length-drop at held));
+      ap (λ (n : ℕ). read_in g (room_of frames) (drop n held)) start ∙ e ∙ ap (λ (n : ℕ). Err (record { left = n; why = why })) (length-drop at held));
 }
 
 -- ---- the next part
@@ -114,15 +116,20 @@ module _ (g : Grammar) (frame : Frame) (outer : List Frame) (held : List ℕ) (i
 
   pub frame-goes : (next : Frame) → taken g held frame item end ≡ Goes next → (start_of (next ∷ outer) ≡ end) × Chain g (next ∷ outer) held
   frame-goes next e =
-      let s = subst (λ (step : Step). Says g room frame.parts held frame.start item end step) e says in
-      (s.0, (record {
-        room_left = c.0.room_left;
-        order = (let before : start_of outer ≤ frame.start = c.0.order in let from : frame.start ≤ end = r.from in omega (arith, s.0));
-        start = (let to : end ≤ length held = r.to in omega (arith, s.0));
-        spans = s.1;
-        risen = s.2;
-        reads = λ more. reads_on more ∙ s.3 more;
-      }, c.1))
+      let s = subst (λ (step : Step). Says g room frame.parts held frame.start item end step) e says in (
+        s.0,
+        (
+          record {
+            room_left = c.0.room_left;
+            order = (let before : start_of outer ≤ frame.start = c.0.order in let from : frame.start ≤ end = r.from in omega (arith, s.0));
+            start = (let to : end ≤ length held = r.to in omega (arith, s.0));
+            spans = s.1;
+            risen = s.2;
+            reads = λ more. reads_on more ∙ s.3 more;
+          },
+          c.1,
+        ),
+      )
 
   pub frame-whole : (whole : Item) → taken g held frame item end ≡ Whole whole → IsRead g outer held whole end
   frame-whole whole e =
@@ -135,7 +142,7 @@ module _ (g : Grammar) (frame : Frame) (outer : List Frame) (held : List ℕ) (i
   frame-stuck why e =
       let s = subst (λ (step : Step). Says g room frame.parts held frame.start item end step) e says in
       let here : read_in g (room_of outer) (drop (start_of outer) held) ≡ Err (record { left = length (drop frame.start held); why = why }) =
-          level_here g (room_of outer) (start_of outer) frame held c.0 ∙ ap (λ r. and_then r (handed g (read_in g room) frame.parts held frame.start)) (read_here g (frame ∷ outer) held item end r) ∙ s.1 in
+      level_here g (room_of outer) (start_of outer) frame held c.0 ∙ ap (λ r. and_then r (handed g (read_in g room) frame.parts held frame.start)) (read_here g (frame ∷ outer) held item end r) ∙ s.1 in
       record {
         within = (c.0).start;
         other = s.0;
@@ -156,38 +163,50 @@ item-read g frames held at room item len start within is w =
       from = (let s : start_of frames ≡ at = start in omega arith);
       to = omega (arith, length-drop at held);
       reads = λ more. ap (λ (n : ℕ). read_in g (room_of frames) (drop n (held ++ more))) start
-      ∙ ap (λ (b : List ℕ). read_in g (room_of frames) b) (drop-append-le at held more within)
-      ∙ ap (λ (n : ℕ). read_in g n (drop at held ++ more)) (sym is)
-      ∙ w.reads more
-      ∙ ap (λ (b : List ℕ). Ok (item, b)) (ends_there held more at len within le);
+          ∙ ap (λ (b : List ℕ). read_in g (room_of frames) b) (drop-append-le at held more within)
+          ∙ ap (λ (n : ℕ). read_in g n (drop at held ++ more)) (sym is)
+          ∙ w.reads more
+          ∙ ap (λ (b : List ℕ). Ok (item, b)) (ends_there held more at len within le);
     }
 
 pub chain-opened : (g : Grammar) (frames : List Frame) (held : List ℕ) (at room : ℕ) (k : Container) (len : ℕ) → Chain g frames held → start_of frames ≡ at → at ≤ length held → room ≡ room_of frames → IsOpening g room (drop at held) k len
     → Chain g (record { start = at + len; parts = opened_parts k } ∷ frames) held
 chain-opened g frames held at room k len c start within is o =
     let le : len ≤ length (drop at held) = o.within in
-    let left : 0 < room = o.room_left in
-    (record {
-      room_left = subst (λ (n : ℕ). 0 < n) is left;
-      order = omega arith;
-      start = omega (arith, length-drop at held);
-      spans = opened-in k held;
-      risen = opened-risen g (room_of frames - 1) k held;
-      reads = λ more. ap (λ (n : ℕ). read_in g (room_of frames) (drop n (held ++ more))) start
-      ∙ ap (λ (b : List ℕ). read_in g (room_of frames) b) (drop-append-le at held more within)
-      ∙ subst (λ (n : ℕ). read_in g n (drop at held ++ more) ≡ read_container g (read_in g (n - 1)) k (drop len (drop at held) ++ more)) is (o.reads more)
-      ∙ ap (λ (b : List ℕ). read_container g (read_in g (room_of frames - 1)) k b) (ends_there held more at len within le)
-      ∙ opened-parts g (read_in g (room_of frames - 1)) k (held ++ more) (at + len) o.parts;
-    }, c)
+    let left : 0 < room = o.room_left in (
+      record {
+        room_left = subst (λ (n : ℕ). 0 < n) is left;
+        order = omega arith;
+        start = omega (arith, length-drop at held);
+        spans = opened-in k held;
+        risen = opened-risen g (room_of frames - 1) k held;
+        reads = λ more. ap (λ (n : ℕ). read_in g (room_of frames) (drop n (held ++ more))) start
+            ∙ ap (λ (b : List ℕ). read_in g (room_of frames) b) (drop-append-le at held more within)
+            ∙ subst (λ (n : ℕ). read_in g n (drop at held ++ more) ≡ read_container g (read_in g (n - 1)) k (drop len (drop at held) ++ more)) is (o.reads more)
+            ∙ ap (λ (b : List ℕ). read_container g (read_in g (room_of frames - 1)) k b) (ends_there held more at len within le)
+            ∙ opened-parts g (read_in g (room_of frames - 1)) k (held ++ more) (at + len) o.parts;
+      },
+      c,
+    )
 
-pub cut-there : (g : Grammar) (frames : List Frame) (held : List ℕ) (at room : ℕ) (why : Why) → Chain g frames held → start_of frames ≡ at → at ≤ length held → room ≡ room_of frames → why ≡ Truncated
+cut_there : (g : Grammar) (frames : List Frame) (held : List ℕ) (at room : ℕ) (why : Why) → IsBytes held → Chain g frames held → start_of frames ≡ at → at ≤ length held → room ≡ room_of frames → why ≡ Truncated
     → read_in g room (drop at held) ≡ Err (record { left = length (drop at held); why = why }) → IsCut g frames held
-cut-there g frames held at room why c start within is cut e = record {
+cut_there g frames held at room why fits c start within is cut e = record {
+  bytes = fits;
   chain = c;
   place = (let s : start_of frames ≡ at = start in omega arith);
   reads = ap (λ (n : ℕ). read_in g (room_of frames) (drop n held)) start
-  ∙ ap (λ (n : ℕ). read_in g n (drop at held)) (sym is)
-  ∙ e
-  ∙ ap (λ (y : Why). Err (record { left = length (drop at held); why = y })) cut
-  ∙ ap (λ (n : ℕ). Err (record { left = n; why = Truncated })) (length-drop at held ∙ ap (λ (n : ℕ). length held - n) (sym start));
+      ∙ ap (λ (n : ℕ). read_in g n (drop at held)) (sym is)
+      ∙ e
+      ∙ ap (λ (y : Why). Err (record { left = length (drop at held); why = y })) cut
+      ∙ ap (λ (n : ℕ). Err (record { left = n; why = Truncated })) (length-drop at held ∙ ap (λ (n : ℕ). length held - n) (sym start));
 }
+
+-- the next part isn't there
+pub stopped-there : (g : Grammar) (frames : List Frame) (held : List ℕ) (at room : ℕ) (why : Why) → IsBytes held → Chain g frames held → start_of frames ≡ at → at ≤ length held → room ≡ room_of frames
+    → read_in g room (drop at held) ≡ Err (record { left = length (drop at held); why = why }) → (walked : Walked) → IsStopped at why walked → HasWalked g frames held walked
+stopped-there g frames held at room why fits c start within is e Cut cut = cut_there g frames held at room why fits c start within is cut e
+stopped-there g frames held at room why fits c start within is e (WalkedWhole item end) no_item = absurd no_item
+stopped-there g frames held at room why fits c start within is e (WalkedStuck fault) other =
+    let there : read_in g (room_of frames) (drop at held) ≡ Err (record { left = length (drop at held); why = why }) = ap (λ (n : ℕ). read_in g n (drop at held)) (sym is) ∙ e in
+    subst (λ (f : Fault). IsStuck g held f) (sym other.0) (stuck_there g frames held at why c start within other.1 there)

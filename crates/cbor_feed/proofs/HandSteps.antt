@@ -110,9 +110,14 @@ module _ (g : Grammar) (room : ℕ) (held : List ℕ) (start : ℕ) (item : Item
       let off : suc n ≡ 0 → ⊥ = λ e. absurd (omega arith) in
       let one : n ≡ suc n - 1 = omega arith in
       let front = items ++ item ∷ [] in
-      rw (ne_eqb (suc n) 0 off) (refl, tt, tt, λ more. (
-      in_turn (part (rest_of more)) (λ x. read_each part n (front ++ x.0 ∷ []) x.1) array_of
-      ∙ ap (λ (m : ℕ). and_then (part (rest_of more)) (handed g part (Items m front) (held ++ more) end)) one))
+      rw (ne_eqb (suc n) 0 off) (
+        refl,
+        tt,
+        tt,
+        λ more. (
+            in_turn (part (rest_of more)) (λ x. read_each part n (front ++ x.0 ∷ []) x.1) array_of
+            ∙ ap (λ (m : ℕ). and_then (part (rest_of more)) (handed g part (Items m front) (held ++ more) end)) one),
+      )
 
   value_says : (left : ℕ) (pairs : List (Item × Item)) (key : Item) (text : Span) → IsIn text held → HasRisen g room (Value left pairs key text) held
       → Says g room (Value left pairs key text) held start item end (pairs_step left (pairs ++ (key, item) ∷ []) text end)
@@ -122,32 +127,41 @@ module _ (g : Grammar) (room : ℕ) (held : List ℕ) (start : ℕ) (item : Item
       let off : suc n ≡ 0 → ⊥ = λ e. absurd (omega arith) in
       let one : n ≡ suc n - 1 = omega arith in
       let front = pairs ++ (key, item) ∷ [] in
-      rw (ne_eqb (suc n) 0 off) (refl, is, risen item, λ more. (
-      let last = span_in (held ++ more) text in
-      in_turn (read_pair g part front last (rest_of more)) (λ x. read_pairs g part n (front ++ x.0 ∷ []) x.1.0 x.1.1) map_of
-      ∙ in_turn (part (rest_of more)) (read_keyed g part front last (rest_of more)) (λ y. and_then (read_pairs g part n (front ++ y.0 ∷ []) y.1.0 y.1.1) map_of)
-      ∙ ap (λ (m : ℕ). and_then (part (rest_of more)) (handed g part (Key m front text) (held ++ more) end)) one))
+      rw (ne_eqb (suc n) 0 off) (
+        refl,
+        is,
+        risen item,
+        λ more. (
+            let last = span_in (held ++ more) text in
+            in_turn (read_pair g part front last (rest_of more)) (λ x. read_pairs g part n (front ++ x.0 ∷ []) x.1.0 x.1.1) map_of
+            ∙ in_turn (part (rest_of more)) (read_keyed g part front last (rest_of more)) (λ y. and_then (read_pairs g part n (front ++ y.0 ∷ []) y.1.0 y.1.1) map_of)
+            ∙ ap (λ (m : ℕ). and_then (part (rest_of more)) (handed g part (Key m front text) (held ++ more) end)) one),
+      )
 
   key_says : (left : ℕ) (pairs : List (Item × Item)) (last : Span) → IsIn last held → KeysRise g room pairs (span_in held last) → KeyStands g room item (span_in held (record { from = start; to = end }))
       → (o : Option Why) → key_row g pairs (span_in held last) item (span_in held (record { from = start; to = end })) ≡ o
       → Says g room (Key left pairs last) held start item end (key_judged o left pairs item (record { from = start; to = end }))
   key_says left pairs last is rises stands None row =
-      let text : Span = record { from = start; to = end } in
-      (refl, (a, b), (λ value. key_risen g room pairs (span_in held last) (span_in held text) item value rises stands row), λ more. (
-      let all = held ++ more in
-      let bytes = drop start all in
-      let rest = drop end all in
-      let within : end ≤ length all = omega (arith, length-append held more) in
-      let front : front_of bytes rest ≡ span_in all text = front-span all start end a within in
-      let same : key_row g pairs (span_in all last) item (front_of bytes rest) ≡ None =
-          ap (λ (t : List ℕ). key_row g pairs t item (front_of bytes rest)) (span-more held more last is)
-          ∙ ap (λ (t : List ℕ). key_row g pairs (span_in held last) item t) (front ∙ span-more held more text (a, b)) ∙ row in
-      let x : Item × List ℕ = (item, rest) in
-      let next : (Item × Item) × (List ℕ × List ℕ) → Read = λ y. and_then (read_pairs g part left (pairs ++ y.0 ∷ []) y.1.0 y.1.1) map_of in
-      let give : Item × List ℕ → Result ((Item × Item) × (List ℕ × List ℕ)) Stop = λ v. Ok ((item, v.0), (front_of bytes rest, v.1)) in
-      ap (λ (o : Option Why). and_then (and_then (judged (length bytes) o x) (read_value part bytes)) next) same
-      ∙ in_turn (part rest) give next
-      ∙ ap (λ (t : List ℕ). and_then (part rest) (λ (v : Item × List ℕ). and_then (read_pairs g part left (pairs ++ (item, v.0) ∷ []) t v.1) map_of)) front))
+      let text : Span = record { from = start; to = end } in (
+        refl,
+        (a, b),
+        (λ value. key_risen g room pairs (span_in held last) (span_in held text) item value rises stands row),
+        λ more. (
+            let all = held ++ more in
+            let bytes = drop start all in
+            let rest = drop end all in
+            let within : end ≤ length all = omega (arith, length-append held more) in
+            let front : front_of bytes rest ≡ span_in all text = front-span all start end a within in
+            let same : key_row g pairs (span_in all last) item (front_of bytes rest) ≡ None =
+            ap (λ (t : List ℕ). key_row g pairs t item (front_of bytes rest)) (span-more held more last is)
+            ∙ ap (λ (t : List ℕ). key_row g pairs (span_in held last) item t) (front ∙ span-more held more text (a, b)) ∙ row in
+            let x : Item × List ℕ = (item, rest) in
+            let next : (Item × Item) × (List ℕ × List ℕ) → Read = λ y. and_then (read_pairs g part left (pairs ++ y.0 ∷ []) y.1.0 y.1.1) map_of in
+            let give : Item × List ℕ → Result ((Item × Item) × (List ℕ × List ℕ)) Stop = λ v. Ok ((item, v.0), (front_of bytes rest, v.1)) in
+            ap (λ (o : Option Why). and_then (and_then (judged (length bytes) o x) (read_value part bytes)) next) same
+            ∙ in_turn (part rest) give next
+            ∙ ap (λ (t : List ℕ). and_then (part rest) (λ (v : Item × List ℕ). and_then (read_pairs g part left (pairs ++ (item, v.0) ∷ []) t v.1) map_of)) front),
+      )
   key_says left pairs last is rises stands (Some why) row =
       let text : Span = record { from = start; to = end } in
       let bytes = drop start held in
@@ -155,9 +169,10 @@ module _ (g : Grammar) (room : ℕ) (held : List ℕ) (start : ℕ) (item : Item
       let front : front_of bytes rest ≡ span_in held text = front-span held start end a b in
       let same : key_row g pairs (span_in held last) item (front_of bytes rest) ≡ Some why = ap (λ (t : List ℕ). key_row g pairs (span_in held last) item t) front ∙ row in
       let x : Item × List ℕ = (item, rest) in
-      let next : (Item × Item) × (List ℕ × List ℕ) → Read = λ y. and_then (read_pairs g part left (pairs ++ y.0 ∷ []) y.1.0 y.1.1) map_of in
-      (row_why (is_key pairs item) (is_strict g && not (is_below (span_in held last) (span_in held text))) true why row,
-      ap (λ (o : Option Why). and_then (and_then (judged (length bytes) o x) (read_value part bytes)) next) same)
+      let next : (Item × Item) × (List ℕ × List ℕ) → Read = λ y. and_then (read_pairs g part left (pairs ++ y.0 ∷ []) y.1.0 y.1.1) map_of in (
+        row_why (is_key pairs item) (is_strict g && not (is_below (span_in held last) (span_in held text))) true why row,
+        ap (λ (o : Option Why). and_then (and_then (judged (length bytes) o x) (read_value part bytes)) next) same,
+      )
 
   pub parts-say : (parts : Parts) → AreIn parts held → HasRisen g room parts held → KeyStands g room item (span_in held (record { from = start; to = end })) → Says g room parts held start item end (parts_taken g held start item end parts)
   parts-say (Items left items) is risen stands = items_say left items

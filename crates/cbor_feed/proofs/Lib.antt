@@ -2,3 +2,4 @@ pub mod HeadSteps
 pub mod PartSteps
 pub mod HandSteps
 pub mod ChainSteps
+pub mod FeedSteps

@@ -51,12 +51,16 @@ SameRow m = (g : Grammar) (room other : ℕ) (h : Head) (rest : List ℕ) → h.
 
 row_0 : SameRow 0
 row_0 g room other h rest e = rw e refl
+
 row_1 : SameRow 1
 row_1 g room other h rest e = rw e refl
+
 row_2 : SameRow 2
 row_2 g room other h rest e = rw e refl
+
 row_3 : SameRow 3
 row_3 g room other h rest e = rw e refl
+
 row_7 : SameRow 7
 row_7 g room other h rest e = rw e refl
 
@@ -74,12 +78,16 @@ SameBody m = (g : Grammar) (part other : Reader) (h : Head) (rest : List ℕ) �
 
 body_0 : SameBody 0
 body_0 g part other h rest e = rw e refl
+
 body_1 : SameBody 1
 body_1 g part other h rest e = rw e refl
+
 body_2 : SameBody 2
 body_2 g part other h rest e = rw e refl
+
 body_3 : SameBody 3
 body_3 g part other h rest e = rw e refl
+
 body_7 : SameBody 7
 body_7 g part other h rest e = rw e refl
 
@@ -98,12 +106,16 @@ NoStop m = (g : Grammar) (part : Reader) (h : Head) (rest : List ℕ) (stop : St
 
 stop_0 : NoStop 0
 stop_0 g part h rest stop e s = ok_err _ _ (rw e at s)
+
 stop_1 : NoStop 1
 stop_1 g part h rest stop e s = ok_err _ _ (rw e at s)
+
 stop_2 : NoStop 2
 stop_2 g part h rest stop e s = ok_err _ _ (rw e at s)
+
 stop_3 : NoStop 3
 stop_3 g part h rest stop e s = ok_err _ _ (rw e at s)
+
 stop_7 : NoStop 7
 stop_7 g part h rest stop e s = ok_err _ _ (rw e at s)
 
@@ -231,12 +243,12 @@ container-part g room bytes k rest fits from to e =
     let len = length bytes - length rest in
     let row : (more : List ℕ) → row_of g room h (rest ++ more) ≡ None = λ more. row-is g room h (rest ++ more) low high ∙ sym (row-is g room h rest low high) ∙ o.1 in
     let reads : (more : List ℕ) → read_in g room (bytes ++ more) ≡ read_container g (read_in g (room - 1)) k (drop len bytes ++ more) = λ more. (
-      read_in-is g room (bytes ++ more)
-      ∙ ap (λ (r : Result (Head × List ℕ) Stop). and_then r (λ x. read_body g (part_in g room) x.0 x.1)) (opened-is g room (bytes ++ more) h (rest ++ more) (head-more bytes h rest fits o.0 more) (row more))
-      ∙ body-is g (part_in g room) h (rest ++ more) low high
-      ∙ ap (λ (p : Reader). read_container g p (kind h.major h.argument) (rest ++ more)) (part_is g room room_left)
-      ∙ ap (λ (c : Container). read_container g (read_in g (room - 1)) c (rest ++ more)) x.2
-      ∙ ap (λ (r : List ℕ). read_container g (read_in g (room - 1)) k (r ++ more)) (sym front.behind)) in
+    read_in-is g room (bytes ++ more)
+    ∙ ap (λ (r : Result (Head × List ℕ) Stop). and_then r (λ x. read_body g (part_in g room) x.0 x.1)) (opened-is g room (bytes ++ more) h (rest ++ more) (head-more bytes h rest fits o.0 more) (row more))
+    ∙ body-is g (part_in g room) h (rest ++ more) low high
+    ∙ ap (λ (p : Reader). read_container g p (kind h.major h.argument) (rest ++ more)) (part_is g room room_left)
+    ∙ ap (λ (c : Container). read_container g (read_in g (room - 1)) c (rest ++ more)) x.2
+    ∙ ap (λ (r : List ℕ). read_container g (read_in g (room - 1)) k (r ++ more)) (sym front.behind)) in
     opening-is g room bytes k len front.some front.within room_left reads
 
 -- a container's head that is refused

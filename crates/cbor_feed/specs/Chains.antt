@@ -7,6 +7,7 @@ use Rattle.cbor_core.specs.declared.words.Fault.{Fault}
 use Rattle.cbor_core.specs.declared.heads.Stop.{Stop}
 use Rattle.cbor_core.specs.declared.tree.Item.{Item}
 use Rattle.cbor_core.specs.Limits.{most_containers}
+use Rattle.cbor_core.specs.Bytes.{IsBytes}
 use Rattle.cbor_core.specs.Reading.{and_then, Reader, read_each, read_keyed, read_pairs, read_in, KeysRise}
 use Rattle.cbor_feed.specs.declared.containers.Container.{Container}
 use Rattle.cbor_feed.specs.declared.containers.Container.TheVariants.{Array, Map, Tag as TagOf}
@@ -79,6 +80,7 @@ pub record IsStuck (g : Grammar) (held : List ℕ) (fault : Fault) : Type 0 wher
 
 -- the bytes end in the next part
 pub record IsCut (g : Grammar) (frames : List Frame) (held : List ℕ) : Type 0 where
+  pub bytes : IsBytes held
   pub chain : Chain g frames held
   pub place : start_of frames ≤ length held
   pub reads : read_in g (room_of frames) (drop (start_of frames) held) ≡ Err (record { left = length held - start_of frames; why = Truncated })

@@ -47,9 +47,7 @@ fn four_bytes(rest: &[u8]) -> Result<(Argument, &[u8]), Why>
         return Err(Why::Truncated);
     }
     let (bytes, rest) = rest.split_at(4);
-    let value = u64::from(u32::from_be_bytes([
-        bytes[0], bytes[1], bytes[2], bytes[3],
-    ]));
+    let value = u64::from(u32::from_be_bytes([bytes[0], bytes[1], bytes[2], bytes[3]]));
     let argument = Argument {
         value,
         least: 0x1_0000,

@@ -61,16 +61,9 @@ impl KeyedPairs {
     }
 }
 
-
 /// What is wrong with a key behind these pairs. In strict a key above the last one is no earlier one, so it is looked for only where it
 /// isn't above.
-pub fn key_why(
-    g: Grammar,
-    pairs: &KeyedPairs,
-    last: &[u8],
-    key: &Item,
-    text: &[u8],
-) -> Option<Why>
+pub fn key_why(g: Grammar, pairs: &KeyedPairs, last: &[u8], key: &Item, text: &[u8]) -> Option<Why>
     requires { strict_grammar g ≡ true → is_below last.now text.now ≡ true → is_key pairs.now key.now ≡ false }
     ensures { result ≡ key_row g pairs.now last.now key.now text.now }
 {
