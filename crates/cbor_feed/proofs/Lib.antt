@@ -3,3 +3,4 @@ pub mod PartSteps
 pub mod HandSteps
 pub mod ChainSteps
 pub mod FeedSteps
+pub mod PieceLaws

@@ -5,3 +5,4 @@ pub mod Frames
 pub mod Chains
 pub mod Feeding
 pub mod Keeping
+pub mod Pieces

@@ -6,9 +6,11 @@ mod feed;
 mod frames;
 mod heads;
 mod keys;
+mod laws;
 mod parts;
 mod walk;
 mod words;
 
 pub use feed::Feed;
+pub use laws::pieces_are_read_as_the_whole;
 pub use words::Fed;
