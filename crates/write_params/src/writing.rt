@@ -9,9 +9,7 @@ ghost use Rattle.scitt_forms.specs.Params.{params_item_said};
 ghost use Rattle.scitt_forms.specs.Writing.{item_said, Writes};
 ghost use Rattle.write_params.specs.WritesParams.{has_between, is_between, governor_fits as fits, past_of_parts, past_word, limits as limits_at, params_doc, WritesParams};
 
-use cbor_core::{
-    Bytes, Item, array_of, bytes_of, text_of, uint_of, whole_bytes_have_one_answer,
-};
+use cbor_core::{Bytes, Item, array_of, bytes_of, text_of, uint_of, whole_bytes_have_one_answer};
 use log_params::{ParamsStop, decode};
 use scitt_forms::{FormStop, Place, Refusal, Why, Word, bytes_of_item, params_item, table_of};
 use std::alloc::{AllocError, Global};

@@ -1,5 +1,5 @@
 -- What a text's form is written as: the strict bytes of the trust file that it says.
-use Rattle.std.specs.Prelude.{ℕ, ◌&&◌, nat_le, Bool, true, false, List, [], ◌∷◌, length, Option, Some, None, option_map, Result, Ok, Err, if◌then◌else◌}
+use Rattle.std.specs.Prelude.{ℕ, ◌&&◌, nat_le, not, Bool, false, List, [], ◌∷◌, length, Option, Some, None, Result, Ok, Err, if◌then◌else◌}
 use Rattle.cbor_core.specs.declared.tree.Item.{Item}
 use Rattle.cbor_core.specs.Items.{array_in}
 use Rattle.relying_party.specs.declared.trust.Trust.{Trust}
@@ -22,7 +22,7 @@ has_between low high (Some items) = nat_le low (length items) && nat_le (length 
 -- the first list that breaks its limit: 1 to 64 services, at most 256 issuers
 abbrev pub past_of_parts : Item → Item → Word
 past_of_parts services issuers =
-    if has_between 1 64 (array_in services) then (if has_between 0 256 (array_in issuers) then w.Form else w.Issuer) else w.Service
+    if not (has_between 1 64 (array_in services)) then w.Service else (if not (has_between 0 256 (array_in issuers)) then w.Issuer else w.Form)
 
 abbrev pub past_by : Option (List Item) → Word
 past_by (Some (form ∷ services ∷ issuers ∷ [])) = past_of_parts services issuers

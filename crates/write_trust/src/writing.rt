@@ -2,11 +2,12 @@
 
 ghost use Rattle.std.specs.Prelude.{◌≡◌, IfOk, Ok};
 ghost use Rattle.cbor_core.specs.declared.words.Grammar.TheVariants.{Strict};
+ghost use Rattle.cbor_core.specs.Items.{array_in};
 ghost use Rattle.cbor_core.specs.Spells.{Spells};
 ghost use Rattle.relying_party.specs.TrustFiles.{TrustOf};
 ghost use Rattle.scitt_forms.specs.Trusts.{trust_item_said};
 ghost use Rattle.scitt_forms.specs.Writing.{item_said, Writes};
-ghost use Rattle.write_trust.specs.WritesTrust.{past_of_parts, past_word, limits as limits_at, trust_doc, WritesTrust};
+ghost use Rattle.write_trust.specs.WritesTrust.{has_between as is_between, past_of_parts, past_word, limits as limits_at, trust_doc, WritesTrust};
 
 use cbor_core::{Bytes, Item, array_of, whole_bytes_have_one_answer};
 use relying_party::{Trust, TrustStop};
@@ -27,13 +28,23 @@ fn limits(word: Word) -> Refusal
     }
 }
 
+// An array of so many items.
+fn has_between(low: usize, high: usize, item: &Item) -> bool
+    ensures { result ≡ is_between low high (array_in item.now) }
+{
+    match array_of(item) {
+        Some(items) => low <= items.len() && items.len() <= high,
+        None => false,
+    }
+}
+
 fn past_of(services: &Item, issuers: &Item) -> Word
     ensures { result ≡ past_of_parts services.now issuers.now }
 {
-    if array_of(services).is_none_or(|items| items.is_empty() || items.len() > 64) {
+    if !has_between(1, 64, services) {
         return Word::Service;
     }
-    if array_of(issuers).is_none_or(|items| items.len() > 256) {
+    if !has_between(0, 256, issuers) {
         return Word::Issuer;
     }
     Word::Form
