@@ -3,10 +3,10 @@
 #
 # The blocks under ```sh run in one shell, in their order. A block without a word behind it holds what the one before printed; where a
 # block has none behind it, it prints nothing. Digits that differ from run to run are read as equal: hexadecimal ones of 16 and more,
-# and the moment behind `registered`. It needs `curl`. The programs are started by `./run`, and so built where they aren't yet, or
+# which the page cuts to 16, and the moment behind `registered`. It needs `curl`. The programs are started by `./run`, and so built where they aren't yet, or
 # taken from the folder that PROGRAMS names.
 #
-# Words: the port (8080, as on the page), and a file to write the page to with what was printed this time.
+# Words: the port (8080, as on the page), and a file to write the page to with what was printed this time, which may be the page itself.
 set -u
 command -v curl >/dev/null 2>&1 || { echo 'quickstart.sh: skipped, since curl is missing'; exit 0; }
 top=$(cd "$(dirname "$0")/.." && pwd -P) || exit 2
@@ -54,7 +54,7 @@ status=$?
 took=$(($(date +%s) - begun))
 
 # Digits that differ from run to run.
-same() { sed -E 's/[0-9a-f]{16,}/../g; s/registered [0-9]+/registered ../' "$1"; }
+same() { sed -E 's/[0-9a-f]{16,}(\.\.)?/../g; s/registered [0-9]+/registered ../' "$1"; }
 failed=0
 for block in "$place"/blocks/*.sh; do
     name=$(basename "$block" .sh)
@@ -74,12 +74,15 @@ done
 
 # The page with what was printed this time.
 if [ -n "$to" ]; then
+    for had in "$place"/blocks/*.had; do
+        sed -E 's/([0-9a-f]{16})[0-9a-f]+/\1../g' "$had" >"$had.cut"
+    done
     awk -v from="$place/blocks" '
         /^```sh$/ { n++; print; inside = 1; next }
         /^```$/ && inside { print; inside = 0; next }
-        /^```$/ && !skip { print; file = sprintf("%s/%02d.had", from, n); while ((getline line <file) > 0) print line; close(file); skip = 1; next }
+        /^```$/ && !skip { print; file = sprintf("%s/%02d.had.cut", from, n); while ((getline line <file) > 0) print line; close(file); skip = 1; next }
         /^```$/ { print; skip = 0; next }
-        !skip { print }' "$page" >"$to"
+        !skip { print }' "$page" >"$place/page" && cp "$place/page" "$to"
 fi
 echo "the blocks took $took seconds"
 [ "$failed" -eq 0 ] && echo 'all is well' || echo "$failed failed"
