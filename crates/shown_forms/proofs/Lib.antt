@@ -1,0 +1,5 @@
+pub mod Putting
+pub mod Each
+pub mod Kinds
+pub mod Growing
+pub mod Holders
