@@ -25,7 +25,7 @@ pub(crate) struct Command<'a> {
     pub file: &'a str,
 }
 
-fn command(kind: Kind, file: &str) -> Command<'_>
+fn with_file(kind: Kind, file: &str) -> Command<'_>
     ensures { meaning result ≡ said.command kind file.now }
 {
     Command { kind, file }
@@ -35,9 +35,9 @@ fn with_one<'a>(name: &str, file: &'a str) -> Option<Command<'a>>
     ensures { option_map meaning result ≡ said.with_one name.now file.now }
 {
     match name {
-        "policy" => Some(command(Kind::Policy, file)),
-        "params" => Some(command(Kind::Params, file)),
-        "trust" => Some(command(Kind::Trust, file)),
+        "policy" => Some(with_file(Kind::Policy, file)),
+        "params" => Some(with_file(Kind::Params, file)),
+        "trust" => Some(with_file(Kind::Trust, file)),
         _ => None,
     }
 }
