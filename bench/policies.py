@@ -1,4 +1,4 @@
-"""Forms of policies and trust files, and the bytes or the refusal of each, by the rules of docs/FORMS.md alone and the CBOR of forms.py.
+"""Forms of policies, trust files and parameters, and the bytes or the refusal of each, by the rules of docs/FORMS.md alone and the CBOR of forms.py.
 
 It prints a table for tests: the lines of the form, joined by `~`, and what it is written as: bytes in hexadecimal, or the refusal.
 """
@@ -151,16 +151,40 @@ LOG = ['log', KEY[5]]
 good([1, [LOG], []], *S)
 good([1, [LOG, ['\u00e9', KEY[6]]], [holder('a', 1), holder('', 2, b'')]], *S, '[[service]]', 'name = "\u00e9"', key(6),
      '[[issuer]]', 'iss = "a"', key(1), '[[issuer]]', 'iss = ""', 'kid = ""', key(2))
+good([1, [LOG], []], 'issuer = []', 'service = [{ name = "log", %s }]' % key(5).upper().replace('KEY', 'key'))
+good([1, [LOG, LOG], [GOV, GOV]], *S, *S, '[[issuer]]', 'iss = "gov"', key(1), '[[issuer]]', 'iss = "gov"', key(1))
+good([1, [['\u00e9\u4e2d\U0001f511\n"\0', KEY[5]]], [holder('\u0414', 1, b'\xc3')]],
+     '[[service]]', r'name = "\u00e9\u4e2d\U0001f511\n\"\u0000"', key(5), '[[issuer]]', 'iss = "\u0414"', 'kid = "c3"', key(1))
+I = ('[[issuer]]', 'iss = "a"', key(1))
 bad('keys unknown', V, *S)
 bad('form toml', '[[service')
+bad('form toml', *S, *S[1:])
+bad('service limits', '')
+bad('service limits', 'service = []', *I)
+bad('service kind', 'service = "log"')
 bad('service kind', '[service]', 'name = "log"', key(5))
 bad('service 0 service kind', 'service = [1]')
 bad('service 0 keys unknown', *S, 'kid = "01"')
 bad('service 0 name missing', '[[service]]', key(5))
 bad('service 0 name kind', '[[service]]', 'name = 1', key(5))
+bad('service 0 key missing', '[[service]]', 'name = "log"')
+bad('service 0 key kind', '[[service]]', 'name = "log"', 'key = [0]')
+bad('service 0 key hex', '[[service]]', 'name = "log"', 'key = "%s"' % KEY[5].hex()[1:])
+bad('service 0 key hex', '[[service]]', 'name = "log"', 'key = "%s00"' % KEY[5].hex())
+bad('service 0 key hex', '[[service]]', 'name = "log"', 'key = "\u00e9%s"' % KEY[5].hex()[2:])
 bad('service 1 key hex', *S, '[[service]]', 'name = "log"', 'key = ""')
 bad('issuer kind', *S, '[issuer]')
+bad('issuer kind', 'issuer = 2026-12-02', *S)
+bad('issuer 0 issuer kind', 'issuer = [[]]', *S)
+bad('issuer 0 keys unknown', *S, *I, 'name = "a"')
+bad('issuer 0 iss missing', *S, '[[issuer]]', key(1))
+bad('issuer 0 iss kind', *S, '[[issuer]]', 'iss = ["a"]', key(1))
 bad('issuer 0 key missing', *S, '[[issuer]]', 'iss = "a"')
+bad('issuer 0 key kind', *S, '[[issuer]]', 'iss = "a"', 'key = 1')
+bad('issuer 0 key hex', *S, '[[issuer]]', 'iss = "a"', 'key = "%s"' % KEY[1].hex()[2:])
+bad('issuer 1 kid kind', *S, *I, *I, 'kid = 1')
+bad('issuer 0 kid hex', *S, *I, 'kid = "0g"')
+bad('service 0 name missing', '[[service]]', key(5), '[[issuer]]')
 
 trusts, rows = rows, []
 
@@ -178,8 +202,26 @@ def params(name='log', governor=GOV, levels=((5, 4), (6, 3)), most=65536, block=
 
 
 good(params(), *N, *T)
-good(params('g\u00e9n\u00e9rique', holder('\u4e2d', 1, b'\1'), most=4294967295, block=0), *parts('name = "g\u00e9n\u00e9rique"', 'max_entries = 4294967295', 'block = 0'),
+good(params('g\u00e9n\u00e9rique', holder('\u4e2d', 1, b'\1'), most=1, block=1), *parts('name = "g\u00e9n\u00e9rique"', 'max_entries = 1', 'block = 1'),
      '[governor]', 'iss = "\u4e2d"', 'kid = "01"', key(1))
+good(params(), 'governor = { iss = "gov", %s }' % key(1).upper().replace('KEY', 'key'), *N)
+# ---- the limits of a log's header, each at its number and one past it
+good(params('\u00e9' * 64), *parts('name = "%s"' % ('\u00e9' * 64)), *T)
+bad('name limits', *parts('name = "%sa"' % ('\u00e9' * 64)), *T)
+bad('name limits', *parts('name = ""'), *T)
+good(params(governor=holder('\u4e2d' * 341 + 'a', 1)), *N, '[governor]', 'iss = "%sa"' % ('\u4e2d' * 341), key(1))
+bad('governor limits', *N, '[governor]', 'iss = "%sab"' % ('\u4e2d' * 341), key(1))
+bad('governor limits', *N, '[governor]', 'iss = ""', key(1))
+good(params(governor=holder('gov', 1, bytes(64))), *N, *T, 'kid = "%s"' % bytes(64).hex())
+bad('governor limits', *N, *T, 'kid = "%s"' % bytes(65).hex())
+bad('governor limits', *N, *T, 'kid = ""')
+bad('max_entries limits', *parts('max_entries = 65537'), *T)
+bad('max_entries limits', *parts('max_entries = 0'), *T)
+bad('max_entries limits', *parts('max_entries = 4294967296'), *T)
+bad('block limits', *parts('block = 65'), *T)
+bad('block limits', *parts('block = 0'), *T)
+bad('block limits', *parts('block = 9223372036854775807'), *T)
+bad('name limits', *parts('name = ""', 'max_entries = 0', 'block = 0'), '[governor]', 'iss = ""', key(1))
 for height, code in ((5, 5), (10, 6)):
     for width, ots in ((1, 1), (2, 2), (4, 3), (8, 4)):
         good(params(levels=((code, ots),)), *parts('levels = "h%dw%d"' % (height, width)), *T)
@@ -193,20 +235,35 @@ bad('name missing', N[1], N[2], N[3], *T)
 bad('name kind', *parts('name = 1'), *T)
 bad('governor missing', *N)
 bad('governor 0 governor kind', *N, '[[governor]]', 'iss = "gov"', key(1))
+bad('governor 0 governor kind', *N, 'governor = "gov"')
+bad('governor 0 keys unknown', *N, *T, 'name = "gov"')
 bad('governor 0 iss missing', *N, '[governor]', key(1))
+bad('governor 0 iss kind', *N, '[governor]', 'iss = 1', key(1))
+bad('governor 0 key missing', *N, '[governor]', 'iss = "gov"')
+bad('governor 0 key kind', *N, '[governor]', 'iss = "gov"', 'key = true')
+bad('governor 0 key hex', *N, '[governor]', 'iss = "gov"', 'key = "%s"' % KEY[1].hex()[2:])
+bad('governor 0 kid kind', *N, *T, 'kid = 0')
+bad('governor 0 kid hex', *N, *T, 'kid = "000"')
 bad('max_entries missing', N[0], N[1], N[3], *T)
+bad('max_entries kind', *parts('max_entries = 6.5e4'), *T)
 bad('max_entries negative', *parts('max_entries = -1'), *T)
 bad('block missing', N[0], N[1], N[2], *T)
 bad('block kind', *parts('block = "64"'), *T)
+bad('block negative', *parts('block = -9223372036854775808'), *T)
+bad('form toml', *parts('block = 9223372036854775808'), *T)
+bad('levels named', *parts('levels = "h5w8, h5w8"'), *T)
+bad('levels named', *parts('levels = "H5W8"'), *T)
+bad('levels named', *parts('levels = "h5w8\u00e9"'), *T)
 bad('keys unknown', *N, 'version = 1', *T)
 bad('form toml', 'name')
 
 if __name__ == '__main__':
     print('// Forms, and the bytes or the refusal of each, by bench/policies.py, a program of its own in Python with its own CBOR. `~` stands for the end\n// of a line.\n')
     # in parts, since one function reads no large table
-    parts = [('POLICIES_%d' % (n // 20 + 1), policies[n:n + 20]) for n in range(0, len(policies), 20)]
-    for name, table in parts + [('TRUSTS', trusts), ('PARAMS', rows)]:
+    parts = [('%s_%d' % (name, n // 20 + 1), table[n:n + 20]) for name, table in (('POLICIES', policies), ('TRUSTS', trusts), ('PARAMS', rows))
+             for n in range(0, len(table), 20)]
+    for name, table in parts:
         print('pub const %s: &[(&str, &str)] = &[' % name)
         for text, what in table:
             print('    (\n        "%s",\n        "%s",\n    ),' % (text.replace('\\', '\\\\').replace('"', '\\"'), what))
-        print('];\n' if name != 'PARAMS' else '];')
+        print('];\n' if name != parts[-1][0] else '];')

@@ -2,7 +2,7 @@
 use Rattle.std.specs.Prelude.{ℕ, List, [], ◌∷◌, Option, Some, None, if◌then◌else◌, codes}
 use Rattle.std.specs.Str.{bytes_eq}
 use Rattle.write_tool.specs.declared.command.Kind.{Kind}
-use Rattle.write_tool.specs.declared.command.Kind.TheVariants.{Policy}
+use Rattle.write_tool.specs.declared.command.Kind.TheVariants.{Policy, Params, Trust}
 
 pub record Command : Type 0 where
   pub kind : Kind
@@ -14,7 +14,9 @@ command kind file = record { kind = kind; file = file }
 abbrev pub with_one : List ℕ → List ℕ → Option Command
 with_one name file =
     if bytes_eq name (codes "policy") then Some (command Policy file)
-    else None
+    else (if bytes_eq name (codes "params") then Some (command Params file)
+    else (if bytes_eq name (codes "trust") then Some (command Trust file)
+    else None))
 
 -- the command that these words are, exactly
 abbrev pub command_of : List (List ℕ) → Option Command

@@ -8,13 +8,17 @@ use Rattle.scitt_forms.specs.declared.stop.FormStop.TheVariants.{Refused}
 use Rattle.scitt_forms.specs.Refusals.{refusal}
 use Rattle.scitt_forms.specs.Fields.{form}
 use Rattle.scitt_forms.specs.Writing.{WritesPolicy}
+use Rattle.write_params.specs.WritesParams.{WritesParams}
+use Rattle.write_trust.specs.WritesTrust.{WritesTrust}
 use Rattle.write_tool.specs.declared.command.Kind.{Kind}
-use Rattle.write_tool.specs.declared.command.Kind.TheVariants.{Policy}
+use Rattle.write_tool.specs.declared.command.Kind.TheVariants.{Policy, Params, Trust}
 use Rattle.write_tool.specs.Answer.{Answer, IsAnswer, unread, too_long}
 
 -- what a form of each kind is written as
 abbrev pub Written : Kind → List ℕ → Result (List ℕ) FormStop → Type 0
 Written Policy text result = WritesPolicy text result
+Written Params text result = WritesParams text result
+Written Trust text result = WritesTrust text result
 
 -- the bytes of a file are a text, which is UTF-8 (TOML 1.0), or the form is refused
 abbrev pub WrittenOf : Kind → List ℕ → Result (List ℕ) FormStop → Type 0

@@ -12,6 +12,10 @@ use scitt_io::Words;
 pub enum Kind {
     /// `policy FILE`
     Policy,
+    /// `params FILE`
+    Params,
+    /// `trust FILE`
+    Trust,
 }
 
 /// A kind of form, and the file that has it.
@@ -21,14 +25,19 @@ pub(crate) struct Command<'a> {
     pub file: &'a str,
 }
 
+fn with_file(kind: Kind, file: &str) -> Command<'_>
+    ensures { meaning result ≡ said.command kind file.now }
+{
+    Command { kind, file }
+}
+
 fn with_one<'a>(name: &str, file: &'a str) -> Option<Command<'a>>
     ensures { option_map meaning result ≡ said.with_one name.now file.now }
 {
     match name {
-        "policy" => Some(Command {
-            kind: Kind::Policy,
-            file,
-        }),
+        "policy" => Some(with_file(Kind::Policy, file)),
+        "params" => Some(with_file(Kind::Params, file)),
+        "trust" => Some(with_file(Kind::Trust, file)),
         _ => None,
     }
 }

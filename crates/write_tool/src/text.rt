@@ -11,6 +11,8 @@ use crate::command::Kind;
 use cbor_core::Bytes;
 use scitt_forms::{FormStop, Place, Refusal, Why, Word, write_policy};
 use std::alloc::{AllocError, Global};
+use write_params::write_params;
+use write_trust::write_trust;
 
 /// The text isn't a TOML document.
 const NO_TOML: Refusal = Refusal {
@@ -27,6 +29,8 @@ fn written(alloc: Global, kind: Kind, text: &str) -> Result<Bytes, FormStop>
 {
     match kind {
         Kind::Policy => write_policy(alloc, text),
+        Kind::Params => write_params(alloc, text),
+        Kind::Trust => write_trust(alloc, text),
     }
 }
 

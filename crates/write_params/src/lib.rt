@@ -1,0 +1,6 @@
+//! The bytes of the parameter file that a text says (TOML 1.0).
+#![tactic(auto)]
+
+mod writing;
+
+pub use writing::write_params;
