@@ -17,7 +17,8 @@ use Rattle.scitt_answers.specs.declared.routes.Target.{Target}
 use Rattle.scitt_answers.specs.declared.routes.Target.TheVariants as target
 use Rattle.scitt_answers.specs.Fits.{Fits, fits_end, fits_byte, fits_part, fits_rest}
 use Rattle.scitt_answers.specs.RouteLaws.{IsRow}
-use Rattle.scitt_answers.specs.Routes.{is_plain, are_digits, number_in, numbered, number_at, target_at, target_on, target_of, parts_by, table}
+use Rattle.http_wire.specs.Heads.{are_digits}
+use Rattle.scitt_answers.specs.Routes.{is_plain, number_in, numbered, number_at, target_at, target_on, target_of, parts_by, table}
 use Rattle.scitt_answers.proofs.Fitting.{seek_fits}
 
 -- ---- plain texts
