@@ -98,7 +98,9 @@ fn text_at(number: usize) -> &'static str {
 
 // The next of a row of numbers, each from the one before.
 fn next(seed: &mut u64) -> usize {
-    *seed = seed.wrapping_mul(6_364_136_223_846_793_005).wrapping_add(1_442_695_040_888_963_407);
+    *seed = seed
+        .wrapping_mul(6_364_136_223_846_793_005)
+        .wrapping_add(1_442_695_040_888_963_407);
     (*seed >> 40) as usize
 }
 
@@ -131,12 +133,14 @@ fn holds_by_scan(cond: &Cond, earlier: &[Facts], facts: &Facts) -> bool {
     match &cond.node {
         CondNode::FirstOfSubject => !earlier.iter().any(|f| f.subject.as_slice() == subject),
         CondNode::CountBelow(n) => {
-            let count = earlier.iter().filter(|f| f.issuer.as_slice() == issuer).count();
+            let count = earlier
+                .iter()
+                .filter(|f| f.issuer.as_slice() == issuer)
+                .count();
             (count as u64) < *n
         }
-        CondNode::Prior(text) => earlier
-            .iter()
-            .any(|f| f.subject.as_slice() == subject && f.issuer.as_slice() == text.as_slice()),
+        CondNode::Prior(text) => earlier.iter().any(|f| f.subject.as_slice() == subject
+            && f.issuer.as_slice() == text.as_slice()),
         _ => false,
     }
 }
