@@ -1,12 +1,11 @@
 -- What a feed says of the bytes that it was fed.
-use Rattle.std.proofs.Common.{◌≡◌, ℕ, suc, ◌-◌, ◌+◌, ◌<◌, ◌≤◌, ◌⊎◌, true, false, cond, List, [], ◌∷◌, ◌++◌, length, take, drop, reverse, get_or, Option, Some, None, Result, Ok, Err, refl, sym, ap, subst, ◌∙◌, inl, inr, arith}
+use Rattle.std.proofs.Common.{◌≡◌, ℕ, suc, ◌-◌, ◌+◌, ◌<◌, ◌≤◌, false, cond, List, [], ◌∷◌, ◌++◌, length, take, drop, reverse, get_or, Option, Some, None, Result, Ok, Err, refl, sym, ap, subst, ◌∙◌, inl, inr, arith}
 use Rattle.std.proofs.lemmas.Bool.{cases_lt}
 use Rattle.std.proofs.lemmas.List.{append-nil, length-append, length-drop, take-append-le, take-append-drop, get_or_append_left, get_or-append-add}
 use Rattle.std.specs.Result.{is_ok, is_err}
 use Rattle.cbor_core.specs.declared.words.Grammar.{Grammar}
 use Rattle.cbor_core.specs.declared.words.Why.TheVariants.{Truncated}
 use Rattle.cbor_core.specs.declared.words.Fault.{Fault}
-use Rattle.cbor_core.specs.declared.heads.Stop.{Stop}
 use Rattle.cbor_core.specs.declared.tree.Item.{Item}
 use Rattle.cbor_core.specs.Limits.{most_containers}
 use Rattle.cbor_core.specs.Bytes.{IsBytes}
@@ -18,7 +17,7 @@ use Rattle.cbor_core.proofs.DecodeLaws.{prefix_of, fault_of, spelled-again}
 use Rattle.cbor_feed.specs.declared.frames.Frame.{Frame}
 use Rattle.cbor_feed.specs.declared.feed.Ended.{Ended}
 use Rattle.cbor_feed.specs.Keeping.{Keeps}
-use Rattle.cbor_feed.specs.Chains.{room_of, start_of, Chain, IsRead, IsStuck, IsCut}
+use Rattle.cbor_feed.specs.Chains.{start_of, Chain, IsRead, IsStuck, IsCut}
 use Rattle.cbor_feed.proofs.PartSteps.{nothing-read}
 use Rattle.cbor_feed.proofs.ChainSteps.{chain-more, chain-stop}
 

@@ -1,5 +1,5 @@
 -- A container that is handed its next part comes to what reading says, whatever follows.
-use Rattle.std.proofs.Common.{◌≡◌, ◌≢◌, ℕ, zero, suc, ◌-◌, ◌+◌, ◌<◌, ◌≤◌, Bool, true, false, not, cond, ◌&&◌, List, [], ◌∷◌, ◌++◌, length, take, drop, Option, Some, None, Result, Ok, Err, refl, sym, ap, subst, ◌∙◌, arith, ne_eqb}
+use Rattle.std.proofs.Common.{◌≡◌, ◌≢◌, ℕ, zero, suc, ◌-◌, ◌≤◌, Bool, true, false, not, cond, ◌&&◌, List, [], ◌∷◌, ◌++◌, length, take, drop, Option, Some, None, Result, Ok, Err, refl, ap, subst, ◌∙◌, arith, ne_eqb}
 use Rattle.std.proofs.lemmas.List.{take-append-le, drop-append-le, length-drop, length-append}
 use Rattle.cbor_core.specs.declared.words.Grammar.{Grammar}
 use Rattle.cbor_core.specs.declared.words.Grammar.TheVariants.{Strict}
@@ -17,7 +17,6 @@ use Rattle.cbor_core.proofs.StrictLemmas.{risen_past, risen_push, no_key, row_or
 use Rattle.cbor_feed.specs.declared.containers.Container.{Container}
 use Rattle.cbor_feed.specs.declared.containers.Container.TheVariants.{Array, Map, Tag as TagOf}
 use Rattle.cbor_feed.specs.declared.frames.Span.{Span}
-use Rattle.cbor_feed.specs.declared.frames.Frame.{Frame}
 use Rattle.cbor_feed.specs.declared.frames.Parts.{Parts}
 use Rattle.cbor_feed.specs.declared.frames.Parts.TheVariants.{Items, Key, Value, Tag}
 use Rattle.cbor_feed.specs.declared.frames.Step.{Step}

@@ -1,8 +1,7 @@
 -- What stands at the front of the bytes stands there whatever follows.
 use Rattle.std.proofs.Common.{◌≡◌, ℕ, zero, suc, ◌-◌, ◌/◌, ◌<◌, ◌≤◌, ◌⊎◌, List, [], ◌∷◌, ◌++◌, length, take, drop, get_or, Option, Some, None, Result, Ok, Err, refl, sym, ap, subst, ◌∙◌, inl, inr, arith, append_assoc, ne_eqb}
-use Rattle.std.proofs.lemmas.List.{take-append-drop, length-append, drop_all}
+use Rattle.std.proofs.lemmas.List.{take-append-drop}
 use Rattle.cbor_core.specs.declared.words.Grammar.{Grammar}
-use Rattle.cbor_core.specs.declared.words.Grammar.TheVariants.{Strict, Wide}
 use Rattle.cbor_core.specs.declared.words.Why.{Why}
 use Rattle.cbor_core.specs.declared.words.Why.TheVariants.{Truncated}
 use Rattle.cbor_core.specs.declared.heads.Head.{Head}
@@ -10,11 +9,11 @@ use Rattle.cbor_core.specs.declared.heads.Stop.{Stop}
 use Rattle.cbor_core.specs.declared.tree.Item.{Item}
 use Rattle.cbor_core.specs.Limits.{most_containers}
 use Rattle.cbor_core.specs.Bytes.{IsBytes}
-use Rattle.cbor_core.specs.Head.{head_at, least}
+use Rattle.cbor_core.specs.Head.{head_at}
 use Rattle.cbor_core.specs.Faults.{row_of, FaultIn}
 use Rattle.cbor_core.specs.Spells.{Spells}
 use Rattle.cbor_core.specs.Reading.{and_then, judged, Reader, opened_by, opened, read_body, part_in, read_each, read_pairs, read_in}
-use Rattle.cbor_core.proofs.StepLemmas.{steps_ok, steps_err, ok_is, ok_err, err_ok, err_is}
+use Rattle.cbor_core.proofs.StepLemmas.{steps_ok, ok_is, ok_err, err_is}
 use Rattle.cbor_core.proofs.HeadLemmas.{head-read}
 use Rattle.cbor_core.proofs.RowLemmas.{IsOpen-from}
 use Rattle.cbor_core.proofs.ReadLoops.{read_in-is}
@@ -23,7 +22,7 @@ use Rattle.cbor_core.proofs.DecodeLaws.{spelled-again}
 use Rattle.cbor_core.proofs.WholeLaws.{none_is_empty}
 use Rattle.cbor_feed.specs.declared.containers.Container.{Container}
 use Rattle.cbor_feed.specs.declared.containers.Container.TheVariants.{Array, Map, Tag}
-use Rattle.cbor_feed.specs.Containers.{kind, refused_by, container_at, read_container}
+use Rattle.cbor_feed.specs.Containers.{kind, container_at, read_container}
 use Rattle.cbor_feed.specs.Parts.{opening, IsWhole, IsPartThere}
 use Rattle.cbor_feed.proofs.HeadSteps.{head-major, head-more, head-front, opened_ok, opened-is, row-is, container_major, container_ok}
 

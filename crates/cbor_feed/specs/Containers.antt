@@ -1,5 +1,5 @@
 -- The containers by their heads (RFC 8949, 3.1 and 3.4), and how what is in them is read.
-use Rattle.std.specs.Prelude.{ℕ, ◌<◌, Bool, ◌&&◌, ◌==◌, List, [], Option, Some, None, Result, Ok, Err, nat_lt, if◌then◌else◌}
+use Rattle.std.specs.Prelude.{ℕ, ◌<◌, ◌&&◌, ◌==◌, List, [], Option, Some, None, Result, Ok, Err, nat_lt, if◌then◌else◌}
 use Rattle.cbor_core.specs.declared.words.Grammar.{Grammar}
 use Rattle.cbor_core.specs.declared.words.Why.{Why}
 use Rattle.cbor_core.specs.declared.words.Why.TheVariants.{NotShortest, TooLong, TooDeep}

@@ -1,7 +1,6 @@
 -- What stands at the front of bytes, whatever follows them.
 use Rattle.std.specs.Prelude.{◌≡◌, ℕ, ◌-◌, ◌<◌, ◌≤◌, ◌==◌, List, [], ◌++◌, length, drop, Result, Ok, Err, if◌then◌else◌}
 use Rattle.cbor_core.specs.declared.words.Grammar.{Grammar}
-use Rattle.cbor_core.specs.declared.words.Why.{Why}
 use Rattle.cbor_core.specs.declared.tree.Item.{Item}
 use Rattle.cbor_core.specs.declared.tree.Node.TheVariants.{Array as ArrayNode, Map as MapNode}
 use Rattle.cbor_core.specs.Reading.{read_in}

@@ -19,8 +19,9 @@ enum Ended {
 
 /// A reader of one CBOR item whose bytes come in pieces (RFC 8949, 3).
 ///
-/// Each byte is looked at once, whatever the pieces. It keeps the bytes of the item beside what it has read of it. Contracts see its
-/// grammar, the bytes that it was fed, up to the item's end, and the answer that it repeats, once there is one.
+/// A piece is read on from where the one before ended: of earlier bytes only a head that was cut, the head of a string that was cut and a
+/// map's keys are looked at again. It keeps the bytes of the item beside what it has read of it. Contracts see its grammar, the bytes that
+/// it was fed, up to the item's end, and the answer that it repeats, once there is one.
 #[derive(Drop)]
 pub struct Feed {
     alloc: Global,

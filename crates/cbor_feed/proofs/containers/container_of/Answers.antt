@@ -1,6 +1,5 @@
-use Rattle.std.proofs.Common.{sym, ◌∙◌, ap, Ok, arith}
+use Rattle.std.proofs.Common.{sym, ◌∙◌, arith}
 use Rattle.cbor_feed.proofs.HeadSteps.{container-refused, container-opened}
-use Rattle.cbor_feed.specs.declared.containers.Container.{Container}
 use Rattle.cbor_feed.proofs.containers.container_of.Goals as goal
 
 pub returns-in-Some : goal.returns-in-Some

@@ -1,6 +1,4 @@
-use Rattle.std.proofs.Common.{◌≡◌, List, ℕ, Option, reverse, refl, ap, subst, ◌∙◌}
-use Rattle.cbor_core.specs.declared.words.Why.TheVariants.{Truncated}
-use Rattle.cbor_core.specs.Faults.{FaultIn}
+use Rattle.std.proofs.Common.{Option, reverse, refl, subst}
 use Rattle.cbor_feed.specs.declared.feed.Ended.{Ended}
 use Rattle.cbor_feed.specs.Keeping.{Keeps}
 use Rattle.cbor_feed.proofs.FeedSteps.{cut-fault}

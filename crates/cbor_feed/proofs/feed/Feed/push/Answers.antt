@@ -1,4 +1,4 @@
-use Rattle.std.proofs.Common.{◌≡◌, ℕ, ◌-◌, List, ◌++◌, length, take, reverse, Some, None, sym, ap, subst, ◌∙◌, arith}
+use Rattle.std.proofs.Common.{◌≡◌, ℕ, ◌-◌, List, ◌++◌, length, take, reverse, Some, sym, ap, subst, ◌∙◌, arith}
 use Rattle.std.specs.Option.{option_map}
 use Rattle.cbor_core.specs.declared.words.Why.TheVariants.{Truncated}
 use Rattle.cbor_core.specs.Bytes.{IsBytes}
@@ -6,7 +6,7 @@ use Rattle.cbor_core.specs.Faults.{FaultIn}
 use Rattle.cbor_feed.specs.declared.words.Fed.TheVariants.{Done, Fault}
 use Rattle.cbor_feed.specs.Feeding.{Feeding}
 use Rattle.cbor_feed.specs.Keeping.{said}
-use Rattle.cbor_feed.specs.Chains.{start_of, IsRead, IsStuck, IsCut}
+use Rattle.cbor_feed.specs.Chains.{start_of}
 use Rattle.cbor_feed.proofs.FeedSteps.{none_left, cut-kept, fed-is, bytes-fed, chain-fed, cut-fault, stuck-fault, item-spelled, ends-in}
 use Rattle.cbor_feed.proofs.feed.Feed.push.Goals as goal
 
