@@ -32,15 +32,31 @@ pub(crate) fn said(alloc: Global, written: Result<Bytes, FormStop>) -> Result<St
     }
 }
 
+/// The kinds of form.
+#[derive(Clone, Copy)]
+enum Kind {
+    Policy,
+    Trust,
+    Params,
+}
+
+fn written(alloc: Global, kind: Kind, text: &str) -> Result<Bytes, FormStop> {
+    match kind {
+        Kind::Policy => write_policy(alloc, text),
+        Kind::Trust => write_trust(alloc, text),
+        Kind::Params => write_params(alloc, text),
+    }
+}
+
 fn are_written_so(
     rt: &impl Abort,
     alloc: Global,
+    kind: Kind,
     table: &[(&str, &str)],
-    write: impl Fn(Global, &str) -> Result<Bytes, FormStop>,
 ) -> Result<(), Fail> {
     for (row, wanted) in table {
         let text = lines(alloc, row)?;
-        let text = said(alloc, write(alloc, text.as_str()))?;
+        let text = said(alloc, written(alloc, kind, text.as_str()))?;
         assert_eq!(rt; text.as_str(), *wanted, "{row}");
     }
     Ok(())
@@ -48,45 +64,45 @@ fn are_written_so(
 
 #[test]
 fn first_policies(rt: HostRuntime) -> Result<(), Fail> {
-    are_written_so(&rt, rt.alloc(), POLICIES_1, write_policy)
+    are_written_so(&rt, rt.alloc(), Kind::Policy, POLICIES_1)
 }
 
 #[test]
 fn second_policies(rt: HostRuntime) -> Result<(), Fail> {
-    are_written_so(&rt, rt.alloc(), POLICIES_2, write_policy)
+    are_written_so(&rt, rt.alloc(), Kind::Policy, POLICIES_2)
 }
 
 #[test]
 fn third_policies(rt: HostRuntime) -> Result<(), Fail> {
-    are_written_so(&rt, rt.alloc(), POLICIES_3, write_policy)
+    are_written_so(&rt, rt.alloc(), Kind::Policy, POLICIES_3)
 }
 
 #[test]
 fn fourth_policies(rt: HostRuntime) -> Result<(), Fail> {
-    are_written_so(&rt, rt.alloc(), POLICIES_4, write_policy)
+    are_written_so(&rt, rt.alloc(), Kind::Policy, POLICIES_4)
 }
 
 #[test]
 fn first_trust_files(rt: HostRuntime) -> Result<(), Fail> {
-    are_written_so(&rt, rt.alloc(), TRUSTS_1, write_trust)
+    are_written_so(&rt, rt.alloc(), Kind::Trust, TRUSTS_1)
 }
 
 #[test]
 fn second_trust_files(rt: HostRuntime) -> Result<(), Fail> {
-    are_written_so(&rt, rt.alloc(), TRUSTS_2, write_trust)
+    are_written_so(&rt, rt.alloc(), Kind::Trust, TRUSTS_2)
 }
 
 #[test]
 fn first_parameters(rt: HostRuntime) -> Result<(), Fail> {
-    are_written_so(&rt, rt.alloc(), PARAMS_1, write_params)
+    are_written_so(&rt, rt.alloc(), Kind::Params, PARAMS_1)
 }
 
 #[test]
 fn second_parameters(rt: HostRuntime) -> Result<(), Fail> {
-    are_written_so(&rt, rt.alloc(), PARAMS_2, write_params)
+    are_written_so(&rt, rt.alloc(), Kind::Params, PARAMS_2)
 }
 
 #[test]
 fn third_parameters(rt: HostRuntime) -> Result<(), Fail> {
-    are_written_so(&rt, rt.alloc(), PARAMS_3, write_params)
+    are_written_so(&rt, rt.alloc(), Kind::Params, PARAMS_3)
 }
