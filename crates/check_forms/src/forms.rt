@@ -1,13 +1,16 @@
 // Forms, and the bytes or the refusal of each.
 
-use super::vectors::{PARAMS, POLICIES_1, POLICIES_2, POLICIES_3, POLICIES_4, TRUSTS};
-use cbor_core::{Bytes, Item};
-use scitt_forms::{
-    FormStop, Refusal, bytes_of_item, params_item, table_of, trust_item, write_policy,
+use super::vectors::{
+    PARAMS_1, PARAMS_2, PARAMS_3, POLICIES_1, POLICIES_2, POLICIES_3, POLICIES_4, TRUSTS_1,
+    TRUSTS_2,
 };
+use cbor_core::Bytes;
+use scitt_forms::{FormStop, write_policy};
 use std::alloc::{AllocError, Global};
 use std::process::Abort;
 use std::test::Fail;
+use write_params::write_params;
+use write_trust::write_trust;
 
 /// The lines that `~` joins.
 pub(crate) fn lines(alloc: Global, row: &str) -> Result<String, AllocError> {
@@ -29,39 +32,31 @@ pub(crate) fn said(alloc: Global, written: Result<Bytes, FormStop>) -> Result<St
     }
 }
 
-fn params_said(alloc: Global, text: &str) -> Result<Result<Item, Refusal>, AllocError> {
-    match table_of(alloc, text)? {
-        Ok(table) => params_item(alloc, &table),
-        Err(refusal) => Ok(Err(refusal)),
+/// The kinds of form.
+#[derive(Clone, Copy)]
+enum Kind {
+    Policy,
+    Trust,
+    Params,
+}
+
+fn written(alloc: Global, kind: Kind, text: &str) -> Result<Bytes, FormStop> {
+    match kind {
+        Kind::Policy => write_policy(alloc, text),
+        Kind::Trust => write_trust(alloc, text),
+        Kind::Params => write_params(alloc, text),
     }
 }
 
-fn trust_said(alloc: Global, text: &str) -> Result<Result<Item, Refusal>, AllocError> {
-    match table_of(alloc, text)? {
-        Ok(table) => trust_item(alloc, &table),
-        Err(refusal) => Ok(Err(refusal)),
-    }
-}
-
-fn written(
-    alloc: Global,
-    said: Result<Result<Item, Refusal>, AllocError>,
-) -> Result<Bytes, FormStop> {
-    match said {
-        Ok(Ok(item)) => bytes_of_item(alloc, &item),
-        Ok(Err(refusal)) => Err(FormStop::Refused(refusal)),
-        Err(_) => Err(FormStop::OutOfMemory),
-    }
-}
-
-fn policies_are_written_so(
+fn are_written_so(
     rt: &impl Abort,
     alloc: Global,
+    kind: Kind,
     table: &[(&str, &str)],
 ) -> Result<(), Fail> {
     for (row, wanted) in table {
         let text = lines(alloc, row)?;
-        let text = said(alloc, write_policy(alloc, text.as_str()))?;
+        let text = said(alloc, written(alloc, kind, text.as_str()))?;
         assert_eq!(rt; text.as_str(), *wanted, "{row}");
     }
     Ok(())
@@ -69,42 +64,45 @@ fn policies_are_written_so(
 
 #[test]
 fn first_policies(rt: HostRuntime) -> Result<(), Fail> {
-    policies_are_written_so(&rt, rt.alloc(), POLICIES_1)
+    are_written_so(&rt, rt.alloc(), Kind::Policy, POLICIES_1)
 }
 
 #[test]
 fn second_policies(rt: HostRuntime) -> Result<(), Fail> {
-    policies_are_written_so(&rt, rt.alloc(), POLICIES_2)
+    are_written_so(&rt, rt.alloc(), Kind::Policy, POLICIES_2)
 }
 
 #[test]
 fn third_policies(rt: HostRuntime) -> Result<(), Fail> {
-    policies_are_written_so(&rt, rt.alloc(), POLICIES_3)
+    are_written_so(&rt, rt.alloc(), Kind::Policy, POLICIES_3)
 }
 
 #[test]
 fn fourth_policies(rt: HostRuntime) -> Result<(), Fail> {
-    policies_are_written_so(&rt, rt.alloc(), POLICIES_4)
+    are_written_so(&rt, rt.alloc(), Kind::Policy, POLICIES_4)
 }
 
 #[test]
-fn trust_files_are_written_so(rt: HostRuntime) -> Result<(), Fail> {
-    let alloc = rt.alloc();
-    for (row, wanted) in TRUSTS {
-        let text = lines(alloc, row)?;
-        let text = said(alloc, written(alloc, trust_said(alloc, text.as_str())))?;
-        assert_eq!(rt; text.as_str(), *wanted, "{row}");
-    }
-    Ok(())
+fn first_trust_files(rt: HostRuntime) -> Result<(), Fail> {
+    are_written_so(&rt, rt.alloc(), Kind::Trust, TRUSTS_1)
 }
 
 #[test]
-fn parameters_are_written_so(rt: HostRuntime) -> Result<(), Fail> {
-    let alloc = rt.alloc();
-    for (row, wanted) in PARAMS {
-        let text = lines(alloc, row)?;
-        let text = said(alloc, written(alloc, params_said(alloc, text.as_str())))?;
-        assert_eq!(rt; text.as_str(), *wanted, "{row}");
-    }
-    Ok(())
+fn second_trust_files(rt: HostRuntime) -> Result<(), Fail> {
+    are_written_so(&rt, rt.alloc(), Kind::Trust, TRUSTS_2)
+}
+
+#[test]
+fn first_parameters(rt: HostRuntime) -> Result<(), Fail> {
+    are_written_so(&rt, rt.alloc(), Kind::Params, PARAMS_1)
+}
+
+#[test]
+fn second_parameters(rt: HostRuntime) -> Result<(), Fail> {
+    are_written_so(&rt, rt.alloc(), Kind::Params, PARAMS_2)
+}
+
+#[test]
+fn third_parameters(rt: HostRuntime) -> Result<(), Fail> {
+    are_written_so(&rt, rt.alloc(), Kind::Params, PARAMS_3)
 }

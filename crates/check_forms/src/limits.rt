@@ -1,9 +1,12 @@
 // The limits of documents, each at its number and one past it.
 
 use super::forms::said;
-use scitt_forms::write_policy;
+use cbor_core::Bytes;
+use scitt_forms::{FormStop, write_policy};
 use std::alloc::{AllocError, Global};
 use std::test::Fail;
+use write_params::write_params;
+use write_trust::write_trust;
 
 fn add_key(text: &mut String) -> Result<(), AllocError> {
     text.push_str("key = \"")?;
@@ -40,8 +43,8 @@ fn add_conditions(text: &mut String, count: u16) -> Result<(), Fail> {
 }
 
 // `ok`, or the refusal.
-fn policy_said(alloc: Global, text: &str) -> Result<String, Fail> {
-    match write_policy(alloc, text) {
+fn whether(alloc: Global, written: Result<Bytes, FormStop>) -> Result<String, Fail> {
+    match written {
         Ok(_bytes) => Ok(String::from_str(alloc, "ok")?),
         other => said(alloc, other),
     }
@@ -71,12 +74,84 @@ fn policies_end_at_their_limits(rt: HostRuntime) -> Result<(), Fail> {
         if *conditions > 0 {
             add_conditions(&mut text, *conditions)?;
         }
-        let text = policy_said(alloc, text.as_str())?;
+        let text = whether(alloc, write_policy(alloc, text.as_str()))?;
         assert_eq!(rt;
             text.as_str(),
             *wanted,
             "{governors} {issuers} {rules} {conditions}"
         );
+    }
+    Ok(())
+}
+
+fn add_services(text: &mut String, count: u16) -> Result<(), Fail> {
+    for number in 0..count {
+        write!(text, "[[service]]\nname = \"{number}\"\n")?;
+        add_key(text)?;
+    }
+    Ok(())
+}
+
+// Services and issuers, and what is said.
+const TRUSTS: &[(u16, u16, &str)] = &[
+    (1, 0, "ok"),
+    (64, 256, "ok"),
+    (0, 256, "service limits"),
+    (65, 0, "service limits"),
+    (64, 257, "issuer limits"),
+    (0, 257, "service limits"),
+    (4096, 0, "service limits"),
+    (4097, 0, "form long"),
+    (1, 4097, "form long"),
+];
+
+#[test]
+fn trust_files_end_at_their_limits(rt: HostRuntime) -> Result<(), Fail> {
+    let alloc = rt.alloc();
+    for (services, issuers, wanted) in TRUSTS {
+        let mut text = String::new(alloc);
+        add_services(&mut text, *services)?;
+        add_holders(&mut text, "issuer", *issuers)?;
+        let text = whether(alloc, write_trust(alloc, text.as_str()))?;
+        assert_eq!(rt; text.as_str(), *wanted, "{services} {issuers}");
+    }
+    Ok(())
+}
+
+// `name`, a text of so many bytes.
+fn add_name(text: &mut String, bytes: u32) -> Result<(), AllocError> {
+    text.push_str("name = \"")?;
+    for _ in 0..bytes {
+        text.push('a')?;
+    }
+    text.push_str("\"\n")
+}
+
+// The bytes of a name, and what is said of a trust file and of parameters.
+const NAMES: &[(u32, &str, &str)] = &[
+    (128, "ok", "ok"),
+    (129, "ok", "name limits"),
+    (4_198_400, "ok", "name limits"),
+    (4_198_401, "form long", "form long"),
+];
+
+#[test]
+fn names_end_at_their_limits(rt: HostRuntime) -> Result<(), Fail> {
+    let alloc = rt.alloc();
+    for (bytes, of_trust, of_params) in NAMES {
+        let mut text = String::from_str(alloc, "[[service]]\n")?;
+        add_name(&mut text, *bytes)?;
+        add_key(&mut text)?;
+        let text = whether(alloc, write_trust(alloc, text.as_str()))?;
+        assert_eq!(rt; text.as_str(), *of_trust, "{bytes}");
+        let mut text = String::new(alloc);
+        add_name(&mut text, *bytes)?;
+        text.push_str(
+            "levels = \"h5w8\"\nmax_entries = 1\nblock = 1\n[governor]\niss = \"gov\"\n",
+        )?;
+        add_key(&mut text)?;
+        let text = whether(alloc, write_params(alloc, text.as_str()))?;
+        assert_eq!(rt; text.as_str(), *of_params, "{bytes}");
     }
     Ok(())
 }
