@@ -5,6 +5,7 @@ use policy_eval::{History, verdict};
 use policy_rules::{Cond, CondNode, ContentKind, Facts, Policy, Rule};
 use sqlite_items::Items;
 use std::alloc::{AllocError, Global};
+use std::process::Abort;
 use std::test::Fail;
 
 fn facts_of(alloc: Global, issuer: &str, subject: &str) -> Result<Facts, AllocError> {
@@ -31,7 +32,16 @@ fn policy_of(alloc: Global, rules: Vec<Rule>) -> Policy {
     }
 }
 
-// Adds the facts, where there is room for an entry more.
+// Makes room for the facts, where the history isn't full.
+fn make_room(history: &mut History, facts: &Facts) -> Result<(), Fail> {
+    if history.len() == 4_294_967_295 {
+        return Err("full".into());
+    }
+    history.reserve(facts)?;
+    Ok(())
+}
+
+// Adds the facts, where the history isn't full.
 fn add(history: &mut History, facts: &Facts) -> Result<(), Fail> {
     if history.len() == 4_294_967_295 {
         return Err("full".into());
@@ -62,25 +72,48 @@ fn any_prior(alloc: Global, count: u32) -> Result<Policy, AllocError> {
     Ok(policy_of(alloc, rules))
 }
 
+// A history of so many numbered entries.
+fn numbered_history(alloc: Global, count: u32) -> Result<History, Fail> {
+    let mut history = History::new(alloc);
+    for number in 0..count {
+        let facts = numbered_facts(alloc, number)?;
+        add(&mut history, &facts)?;
+    }
+    Ok(history)
+}
+
+// The verdict on the facts with this number.
+fn verdict_on(
+    alloc: Global,
+    policy: &Policy,
+    history: &History,
+    number: u32,
+) -> Result<(bool, u16), AllocError> {
+    let facts = numbered_facts(alloc, number)?;
+    Ok(verdict(policy, history, &facts))
+}
+
 // Verdicts that look through all facts for each part don't end in the time that a test has.
 #[test]
 fn many_entries_are_looked_up(rt: HostRuntime) -> Result<(), Fail> {
     let alloc = rt.alloc();
-    let mut history = History::new(alloc);
-    for number in 0..65_536 {
-        let facts = numbered_facts(alloc, number)?;
-        add(&mut history, &facts)?;
-    }
-    assert_eq!(rt; history.len(), 65_536);
+    let history = numbered_history(alloc, 65_536)?;
     let policy = any_prior(alloc, 4000)?;
     for half in 0..1000 {
-        let facts = numbered_facts(alloc, 2 * half)?;
-        let (effect, id) = verdict(&policy, &history, &facts);
+        let (effect, id) = verdict_on(alloc, &policy, &history, 2 * half)?;
         assert!(rt; !effect, "{half}");
         assert_eq!(rt; id, 0, "{half}");
     }
-    let facts = numbered_facts(alloc, 1)?;
-    let (effect, id) = verdict(&policy, &history, &facts);
+    Ok(())
+}
+
+#[test]
+fn the_last_of_many_entries_counts(rt: HostRuntime) -> Result<(), Fail> {
+    let alloc = rt.alloc();
+    let history = numbered_history(alloc, 65_536)?;
+    assert_eq!(rt; history.len(), 65_536);
+    let policy = any_prior(alloc, 4000)?;
+    let (effect, id) = verdict_on(alloc, &policy, &history, 65_535)?;
     assert!(rt; effect);
     assert_eq!(rt; id, 100);
     Ok(())
@@ -154,28 +187,48 @@ fn verdict_by_scan(policy: &Policy, earlier: &[Facts], facts: &Facts) -> (bool, 
     (false, 0)
 }
 
+fn facts_at(alloc: Global, seed: &mut u64) -> Result<Facts, AllocError> {
+    let issuer = text_at(next(seed));
+    let subject = text_at(next(seed));
+    facts_of(alloc, issuer, subject)
+}
+
+// The counts and the list give one verdict.
+fn agrees(rt: &impl Abort, policy: &Policy, history: &History, earlier: &[Facts], facts: &Facts) {
+    let (effect, id) = verdict(policy, history, facts);
+    let (scan_effect, scan_id) = verdict_by_scan(policy, earlier, facts);
+    assert_eq!(rt; effect, scan_effect);
+    assert_eq!(rt; id, scan_id);
+}
+
+// A history and the list of its facts agree before each of 30 entries.
+fn history_agrees(
+    rt: &impl Abort,
+    alloc: Global,
+    policy: &Policy,
+    seed: &mut u64,
+) -> Result<(), Fail> {
+    let mut history = History::new(alloc);
+    let mut earlier = Vec::new(alloc);
+    for _ in 0..30 {
+        let facts = facts_at(alloc, seed)?;
+        agrees(rt, policy, &history, earlier.as_slice(), &facts);
+        // Room for facts that never come stands for no entry.
+        let other = facts_at(alloc, seed)?;
+        make_room(&mut history, &other)?;
+        add(&mut history, &facts)?;
+        earlier.push(facts)?;
+    }
+    Ok(())
+}
+
 #[test]
 fn verdicts_are_those_of_a_scan(rt: HostRuntime) -> Result<(), Fail> {
     let alloc = rt.alloc();
     let mut seed = 1;
     for _ in 0..100 {
         let policy = policy_of(alloc, rules_at(alloc, &mut seed)?);
-        let mut history = History::new(alloc);
-        let mut earlier = Vec::new(alloc);
-        for entry in 0..30 {
-            let facts = facts_of(alloc, text_at(next(&mut seed)), text_at(next(&mut seed)))?;
-            let (effect, id) = verdict(&policy, &history, &facts);
-            let (scan_effect, scan_id) = verdict_by_scan(&policy, earlier.as_slice(), &facts);
-            assert_eq!(rt; effect, scan_effect, "{entry}");
-            assert_eq!(rt; id, scan_id, "{entry}");
-            // Room for facts that never come stands for no entry.
-            if entry % 3 == 0 {
-                let other = facts_of(alloc, text_at(next(&mut seed)), text_at(next(&mut seed)))?;
-                history.reserve(&other)?;
-            }
-            add(&mut history, &facts)?;
-            earlier.push(facts)?;
-        }
+        history_agrees(&rt, alloc, &policy, &mut seed)?;
     }
     Ok(())
 }
