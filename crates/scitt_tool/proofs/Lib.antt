@@ -6,7 +6,6 @@ pub mod Making
 pub mod Attaching
 pub mod Dues
 pub mod Runs
-pub mod Auditing
 pub mod Keys
 pub mod Signing
 pub mod OneText
