@@ -9,6 +9,8 @@ mod documents;
 #[cfg(test)]
 mod limits;
 #[cfg(test)]
+mod many_entries;
+#[cfg(test)]
 mod verdict_vectors;
 #[cfg(test)]
 mod verdicts;

@@ -1,5 +1,5 @@
 // Disks that fail, stop or tell nothing.
-use crate::told::{compare, is_told};
+use crate::told::{ALG, compare, is_told};
 use hss_keys::OtsType;
 use scitt_disk::{MemDisk, SureDisk};
 use std::alloc::Global;
@@ -249,5 +249,70 @@ fn a_disk_that_keeps_nothing_is_changed(rt: HostRuntime) -> Result<(), Fail> {
     let (first, second) = told_of_nothing(rt.alloc())?;
     compare(&rt, first.as_str(), NOTHING);
     compare(&rt, second.as_str(), "no log\n");
+    Ok(())
+}
+
+// A policy that admits all of its issuer, and a statement of the issuer.
+const READ_DRAFTS: &[Drafted] = &[
+    Drafted::Genesis,
+    Drafted::Issued {
+        index: 0,
+        alg: ALG,
+        payload: b"zero",
+    },
+];
+
+const REGISTERED: Play = Play {
+    drafts: READ_DRAFTS,
+    max_entries: 100,
+    block: 4,
+    fails: &[],
+    acts: &[Act::Made(&[
+        Step::Judge(0, 1_000),
+        Step::Judge(1, 1_001),
+        Step::Statement(0),
+        Step::Receipt(0),
+    ])],
+};
+
+// The second entry takes calls 16 to 19. No entry is kept in memory: each of the next three reads its record, and each fails.
+const UNREAD: Play = Play {
+    drafts: READ_DRAFTS,
+    max_entries: 100,
+    block: 4,
+    fails: &[20, 21, 22],
+    acts: &[Act::Made(&[
+        Step::Judge(0, 1_000),
+        Step::Judge(1, 1_001),
+        Step::Statement(0),
+        Step::Receipt(0),
+        Step::Judge(0, 1_002),
+        Step::Counts,
+        Step::Judge(0, 1_002),
+        Step::Statement(0),
+        Step::Receipt(0),
+    ])],
+};
+
+const UNREAD_TOLD: &str = "disk fault
+disk fault
+disk fault
+counts 2 4 2 3
+known 0
+";
+
+// The records are as before: the file is that of the log that never failed, and so is what is read back later.
+#[test]
+fn entries_are_read_back_from_the_disk(rt: HostRuntime) -> Result<(), Fail> {
+    let alloc = rt.alloc();
+    let props = make_props(alloc, OtsType::W1, READ_DRAFTS)?;
+    let sound = told_with(alloc, &REGISTERED, &props)?;
+    let back = sound
+        .as_str()
+        .strip_prefix("admitted 0\nadmitted 1\n")
+        .ok_or("not admitted")?;
+    let wanted = format!(in alloc; "admitted 0\nadmitted 1\n{UNREAD_TOLD}{back}")?;
+    let text = told_with(alloc, &UNREAD, &props)?;
+    compare(&rt, text.as_str(), wanted.as_str());
     Ok(())
 }
