@@ -4,14 +4,24 @@ ghost use Rattle.cose_sign1.specs.Labels.{key_label, all_labels, key_is, value_a
 
 use cbor_core::{Item, Node, Text};
 use std::alloc::{AllocError, Global};
+use std::fmt;
 
 /// The label of a header parameter (RFC 9052, 1.5).
-#[derive(Drop)]
+#[derive(Debug, PartialEq, Eq, Drop)]
 pub enum Label {
     /// An integer: an unsigned item n is n, a negative one is -1 - n.
     Int(i128),
     /// A text.
     Text(Text),
+}
+
+impl fmt::Display for Label {
+    fn fmt<W: fmt::Write>(&self, f: &mut fmt::Formatter<W>) -> fmt::Result {
+        match self {
+            Label::Int(n) => write!(f, "{n}"),
+            Label::Text(text) => f.write_str(text.as_str()),
+        }
+    }
 }
 
 /// The label that a key spells, where it is one.

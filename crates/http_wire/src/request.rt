@@ -1,4 +1,5 @@
 use cbor_core::{Bytes, Text};
+use thiserror::Error;
 
 /// The method of a request (RFC 9110, 9).
 #[derive(Clone, Copy, Debug, PartialEq, Eq)]
@@ -10,15 +11,19 @@ pub enum Method {
 }
 
 /// Why a head is refused.
-#[derive(Clone, Copy, Debug, PartialEq, Eq)]
+#[derive(Clone, Copy, Debug, PartialEq, Eq, Error)]
 pub enum HeadFault {
     /// The parser refuses the head; or Content-Length stands twice, or isn't 1 to 10 digits.
+    #[error("a head that the parser refuses")]
     BadHead,
     /// Transfer-Encoding stands, or a POST has no Content-Length.
+    #[error("no length of the body")]
     NoLength,
     /// Content-Length exceeds 4,194,304.
+    #[error("too large a body")]
     TooLarge,
     /// 8,192 bytes are no whole head, and the parser doesn't refuse them.
+    #[error("too long a head")]
     HeadTooLong,
 }
 

@@ -7,32 +7,42 @@ ghost use Rattle.key_store.specs.declared.stops.TakeStop.TheVariants as of_take;
 use scitt_disk::DiskFault;
 use scitt_journal::{BodyStop, CreateStop, LoadStop};
 use std::alloc::AllocError;
+use thiserror::Error;
 
 /// Why a key file wasn't made or loaded.
-#[derive(Debug, Clone, Copy, PartialEq, Eq)]
+#[derive(Debug, Clone, Copy, PartialEq, Eq, Error)]
 pub enum KeyStop {
     /// The file has at least six bytes and the first is 1.
+    #[error("the file begins a key file")]
     KeyExists,
     /// The file has fewer than six bytes, or the first isn't 1.
+    #[error("the file begins no key file")]
     NoKey,
     /// The record of the first open gate that isn't whole passes the end; that gate's offset.
+    #[error("the record at {0} is short")]
     Short(u64),
     /// The number of the first record that doesn't fit.
+    #[error("record {0} doesn't fit")]
     BadKeyFile(u64),
     /// A call of the disk failed, and its count of faults rose.
+    #[error("disk fault")]
     DiskFault,
     /// Memory was wanting.
+    #[error("out of memory")]
     OutOfMemory,
 }
 
 /// Why no index was given.
-#[derive(Debug, Clone, Copy, PartialEq, Eq)]
+#[derive(Debug, Clone, Copy, PartialEq, Eq, Error)]
 pub enum TakeStop {
     /// The next index is the capacity.
+    #[error("the key is used up: {next} of {capacity}")]
     Exhausted { next: u64, capacity: u64 },
     /// A call of the disk failed, and its count of faults rose.
+    #[error("disk fault")]
     DiskFault,
     /// Memory was wanting, before a reservation was written.
+    #[error("out of memory")]
     OutOfMemory,
 }
 

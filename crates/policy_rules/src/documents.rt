@@ -7,6 +7,7 @@ use crate::conditions::Cond;
 use cbor_core::{Bytes, Fault, Text};
 use sqlite_items::Items;
 use std::alloc::{AllocError, Global};
+use thiserror::Error;
 
 /// The bytes of an HSS public key.
 pub type Key60 = [u8; 60];
@@ -43,13 +44,16 @@ pub struct Policy {
 }
 
 /// Why bytes are no policy document.
-#[derive(Debug, Drop)]
+#[derive(Clone, Copy, PartialEq, Eq, Debug, Drop, Error)]
 pub enum PolicyStop {
     /// They aren't one item.
+    #[error("{0}")]
     Cbor(Fault),
     /// The first place that fails: 1 the shape, 2 the version, 3 the governors, 4 the issuers, 5 the rules.
+    #[error("no policy document at place {0}")]
     BadPolicy(u8),
     /// Memory ran out.
+    #[error("out of memory")]
     OutOfMemory,
 }
 

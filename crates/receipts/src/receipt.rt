@@ -1,5 +1,6 @@
 use cbor_core::{Bytes, Fault, Text};
 use merkle_tree::{Hash, Path};
+use thiserror::Error;
 
 /// A receipt, in the one form of the profile (COSE Receipts).
 #[derive(Drop)]
@@ -29,12 +30,21 @@ pub enum Proof {
 }
 
 /// Why bytes are no receipt.
-#[derive(Debug, Drop)]
+#[derive(Clone, Copy, PartialEq, Eq, Debug, Drop, Error)]
 pub enum ReceiptStop {
+    /// They aren't one strict item.
+    #[error("{0}")]
     Cbor(Fault),
+    /// The item has another shape.
+    #[error("no receipt")]
     NotReceipt,
+    /// The protected string says something else.
+    #[error("no protected string of a receipt")]
     BadProtected,
+    /// The proof has another form.
+    #[error("no proof of a receipt")]
     BadProof,
+    #[error("out of memory")]
     OutOfMemory,
 }
 

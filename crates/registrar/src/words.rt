@@ -4,6 +4,7 @@ use cbor_core::{Bytes, Text};
 use hss_keys::{Key60, Levels};
 use log_replay::Why;
 use policy_rules::Holder;
+use thiserror::Error;
 
 /// What a log is begun with.
 #[derive(Drop)]
@@ -57,22 +58,30 @@ pub enum ReadBack {
 }
 
 /// Why a registrar wasn't created or loaded.
-#[derive(Clone, Copy, PartialEq, Eq, Debug)]
+#[derive(Clone, Copy, PartialEq, Eq, Debug, Error)]
 pub enum RegistrarStop {
     /// A limit of the header is broken.
+    #[error("parameters against their limits")]
     BadParams,
     /// The file has at least six bytes and the first is 1.
+    #[error("the file begins a log")]
     LogExists,
     /// The file has fewer than six bytes, or the first isn't 1.
+    #[error("the file begins no log")]
     NoLog,
     /// The record of the first open gate that isn't whole passes the end; that gate's offset.
+    #[error("the record at {0} is short")]
     Short(u64),
     /// The first record with which the list isn't well made, and the first rule that it fails.
+    #[error("record {number}: {why}")]
     BadLog { number: u64, why: Why },
     /// The log's key isn't the one that the seed derives.
+    #[error("the log's key isn't the one of the seed")]
     WrongKey { kept: Key60, derived: Key60 },
     /// A call of the disk failed, and its count of faults rose.
+    #[error("disk fault")]
     DiskFault,
     /// Memory was wanting.
+    #[error("out of memory")]
     OutOfMemory,
 }

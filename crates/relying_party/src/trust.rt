@@ -9,6 +9,7 @@ use merkle_tree::Hash;
 use sha2::{Digest, Sha256};
 use sqlite_items::Items;
 use std::marker::Model;
+use thiserror::Error;
 
 /// A service that is trusted: its name and its HSS public key. The digest of the key is kept beside it, by which receipts name the key.
 /// Contracts see the name and the key.
@@ -78,11 +79,14 @@ pub struct Trust {
 }
 
 /// Why bytes are no trust file.
-#[derive(Debug, Drop)]
+#[derive(Clone, Copy, PartialEq, Eq, Debug, Drop, Error)]
 pub enum TrustStop {
     /// The bytes aren't one item of the strict grammar.
+    #[error("{0}")]
     Cbor(Fault),
     /// They are another item.
+    #[error("no trust file")]
     BadTrust,
+    #[error("out of memory")]
     OutOfMemory,
 }

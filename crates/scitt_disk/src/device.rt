@@ -3,8 +3,11 @@ ghost use Rattle.scitt_io.specs.Causes.{HasCause};
 ghost use Rattle.scitt_disk.specs.Images.{Held, IsImage};
 ghost use Rattle.scitt_disk.specs.Changes.{after_write, after_sync, AfterFailedWrite};
 
+use thiserror::Error;
+
 /// A call of a disk failed. The disk has counted it.
-#[derive(Debug, Clone, Copy, PartialEq, Eq)]
+#[derive(Debug, Clone, Copy, PartialEq, Eq, Error)]
+#[error("disk fault")]
 pub struct DiskFault;
 
 /// A file that is read and written at any place, and synced.

@@ -6,6 +6,7 @@ ghost use Rattle.scitt_journal.specs.declared.stops.LoadStop.TheVariants as of_l
 
 use scitt_disk::DiskFault;
 use std::alloc::{AllocError, AllocFailed};
+use thiserror::Error;
 
 /// A disk that is handed back, and why.
 #[derive(Debug, Drop)]
@@ -15,35 +16,44 @@ pub struct Refused<D, E> {
 }
 
 /// Why a journal wasn't created.
-#[derive(Debug, Clone, Copy, PartialEq, Eq)]
+#[derive(Debug, Clone, Copy, PartialEq, Eq, Error)]
 pub enum CreateStop {
     /// The file has at least six bytes and the first is 1.
+    #[error("the file begins a log")]
     LogExists,
     /// A call of the disk failed, and its count of faults rose.
+    #[error("disk fault")]
     DiskFault,
     /// Memory was wanting, before the first call of the disk.
+    #[error("out of memory")]
     OutOfMemory,
 }
 
 /// Why a journal wasn't loaded.
-#[derive(Debug, Clone, Copy, PartialEq, Eq)]
+#[derive(Debug, Clone, Copy, PartialEq, Eq, Error)]
 pub enum LoadStop {
     /// The file has fewer than six bytes, or the first isn't 1.
+    #[error("the file begins no log")]
     NoLog,
     /// The record of the first open gate that isn't whole passes the end; that gate's offset.
+    #[error("the record at {0} is short")]
     Short(u64),
     /// A call of the disk failed, and its count of faults rose.
+    #[error("disk fault")]
     DiskFault,
     /// Memory was wanting.
+    #[error("out of memory")]
     OutOfMemory,
 }
 
 /// Why a body wasn't read.
-#[derive(Debug, Clone, Copy, PartialEq, Eq)]
+#[derive(Debug, Clone, Copy, PartialEq, Eq, Error)]
 pub enum BodyStop {
     /// A call of the disk failed, and its count of faults rose.
+    #[error("disk fault")]
     DiskFault,
     /// Memory was wanting.
+    #[error("out of memory")]
     OutOfMemory,
 }
 
