@@ -8,6 +8,8 @@ pub mod LoggedAgain
 pub mod Lookups
 pub mod Making
 pub mod More
+pub mod NewIds
+pub mod Numbering
 pub mod Prefixes
 pub mod Refusing
 pub mod Short

@@ -1,9 +1,8 @@
 -- What a state keeps, looked up, is what the log says.
-use Rattle.std.proofs.Common.{◌≡◌, ℕ, ◌+◌, max, List, [], ◌∷◌, Bool, true, cond, not, Option, None, Some, refl, sym, ap, ◌∙◌, length, nat_lt, ◌<◌, ◌≤◌, drop, get_or}
+use Rattle.std.proofs.Common.{◌≡◌, ℕ, ◌+◌, max, List, [], ◌∷◌, Bool, cond, not, Option, None, Some, refl, sym, ap, ◌∙◌, length, nat_lt}
 use Rattle.std.specs.Prelude.{map, option_map, unwrap_or, position}
-use Rattle.std.specs.List.{prefix_len, position_or_len, position_from}
-use Rattle.std.proofs.lemmas.Iterator.Adapters.{position_from-zero}
-use Rattle.std.proofs.lemmas.List.{at_drop_more, at_drop_all, length-map}
+use Rattle.std.specs.List.{prefix_len, position_or_len}
+use Rattle.std.proofs.lemmas.List.{length-map}
 use Rattle.std.specs.Str.{bytes_eq}
 use Rattle.statement.specs.Said.{Said, id_of}
 use Rattle.policy_rules.specs.declared.documents.Policy.{Policy}
@@ -51,12 +50,3 @@ in_force_now K R h p was head now =
 pub kept_is_judge : KeptIsJudge
 kept_is_judge K R h p s m was head now =
     judged_kept h (entries_of R) p K.ids K.facts K.last s m was.ids was.facts was.last (in_force_now K R h p was head now)
-
--- ---- the scan for an id
-
-pub found_at : {A : Type 0} (p : A → Bool) (xs : List A) (i : ℕ) (d : A) → i < length xs → position_from p 0 xs ≡ position_from p i (drop i xs) → p (get_or xs i d) ≡ true → Some i ≡ position p xs
-found_at p xs i d below so_far hit =
-    sym (position_from-zero p xs ∙ so_far ∙ at_drop_more (position_from p i) xs i d below ∙ ap (λ b. cond b (Some i) (position_from p (i + 1) (drop (i + 1) xs))) hit)
-
-pub found_none : {A : Type 0} (p : A → Bool) (xs : List A) (i : ℕ) → length xs ≤ i → position_from p 0 xs ≡ position_from p i (drop i xs) → None ≡ position p xs
-found_none p xs i all so_far = sym (position_from-zero p xs ∙ so_far ∙ at_drop_all (position_from p i) xs i all)

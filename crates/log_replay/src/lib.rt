@@ -8,6 +8,7 @@ mod holders;
 mod judging;
 mod keys;
 mod laws;
+mod numbered;
 mod parts;
 mod reading;
 mod rules;

@@ -6,7 +6,7 @@ ghost use Rattle.policy_rules.specs.Spelling.{policy_item};
 ghost use Rattle.statement.specs.Said.{said_of};
 ghost use Rattle.log_replay.specs.Spelling.{HasBytes};
 ghost use Rattle.log_replay.specs.Kept.{kept_from, Stands};
-ghost use Rattle.log_replay.specs.KeptRows.{place_in, judge_kept};
+ghost use Rattle.log_replay.specs.KeptRows.{judge_kept};
 
 use crate::checked::{Checked, document_of_statement, is_policy};
 use crate::judging::{judge_new, key_for};
@@ -18,7 +18,6 @@ use crate::writing::policy_text;
 use cbor_core::Bytes;
 use hss_keys::Key60;
 use merkle_tree::NodeTable;
-use policy_eval::History;
 use policy_rules::Policy;
 use statement::{Hash, Statement};
 use std::alloc::{AllocError, Global};
@@ -48,34 +47,19 @@ pub struct State {
     ghost made: { ∥ Stands (kept_from header policy records reserved used tables.ids tables.homes tables.facts tables.leaves last logged) ∥₁ },
 }
 
-// The place of the entry with this id.
-fn place(ids: &[Hash], id: &Hash) -> Option<u32>
-    requires { length ids.now ≤ 65536 }
-    ensures { result ≡ place_in ids.now id.now }
-{
-    for (i, known) in ids.iter().enumerate() {
-        if known.as_slice() == id.as_slice() {
-            return Some(i as u32);
-        }
-    }
-    None
-}
-
 /// The judgement by what is kept.
 pub(crate) fn judged(
     policy: &Policy,
-    ids: &[Hash],
-    history: &History,
+    tables: &Tables,
     last: u64,
     checked: &Checked,
     moment: u64,
 ) -> Judgement
-    requires { length ids.now ≤ 65536 }
-    ensures { result ≡ judge_kept policy.now ids.now history.now.entries last (said_of checked.now.statement) moment }
+    ensures { result ≡ judge_kept policy.now tables.now.ids tables.now.facts last (said_of checked.now.statement) moment }
 {
-    match place(ids, &checked.statement.id) {
+    match tables.place(&checked.statement.id) {
         Some(i) => Judgement::Known(i),
-        None => judge_new(policy, history, checked, moment.max(last)),
+        None => judge_new(policy, tables.history(), checked, moment.max(last)),
     }
 }
 
@@ -198,14 +182,7 @@ impl State {
     {
         state_laws();
         let judgement = match &self.policy {
-            Some(policy) => judged(
-                policy,
-                self.tables.ids(),
-                self.tables.history(),
-                self.last,
-                checked,
-                moment,
-            ),
+            Some(policy) => judged(policy, &self.tables, self.last, checked, moment),
             None => unreachable!(),
         };
         (judgement, moment.max(self.last))

@@ -246,12 +246,10 @@ impl State {
         let Ok(checked) = check(self.alloc, statement, None) else {
             return Err(AllocError);
         };
-        let ids = self.tables.ids();
-        let history = self.tables.history();
-        let judgement = judged(policy, ids, history, self.last, &checked, at);
+        let judgement = judged(policy, &self.tables, self.last, &checked, at);
         let measures = Measures {
             last: self.last,
-            count: ids.len() as u64,
+            count: u64::from(self.tables.len()),
             logged: self.logged,
             at,
             rule,

@@ -1,7 +1,9 @@
 // What is kept of each entry.
 
 ghost use Rattle.std.specs.Prelude.{◌≡◌, ℕ, ◌≤◌, ◌<◌, ◌++◌, ◌∷◌, [], None, Some, length, OnOk, OnErr, slice_get};
+ghost use Rattle.log_replay.specs.KeptRows.{place_in};
 
+use crate::numbered::Numbered;
 use merkle_tree::NodeTable;
 use policy_eval::History;
 use policy_rules::Facts;
@@ -12,23 +14,22 @@ use std::marker::Model;
 /// The entries' ids, the numbers of their records, their facts and their leaf hashes, with room for one entry more.
 #[derive(Drop)]
 pub struct Tables {
-    ids: Vec<Hash>,
-    homes: Vec<u64>,
+    numbered: Numbered,
     history: History,
     table: NodeTable,
 }
 
 impl Model for Tables {
-    ghost use Rattle.std.specs.Prelude.{◌≡◌, ℕ, ◌<◌, ◌≤◌, List, length, vec_len, vec_capacity, IfSome};
+    ghost use Rattle.std.specs.Prelude.{◌≡◌, ℕ, ◌<◌, ◌≤◌, List, length, IfSome};
     ghost use Rattle.log_replay.specs.Lists.{Lists};
 
     ghost Value = { Lists };
 
-    ghost view = { λ t. record { ids = t.ids.items; homes = t.homes.items; facts = t.history.entries; leaves = t.table.leaves; room = t.history.room } };
+    ghost view = { λ t. record { ids = t.numbered.ids; homes = t.numbered.homes; facts = t.history.entries; leaves = t.table.leaves; room = t.history.room } };
 
-    ghost invariant = { λ t. (length t.ids.items ≤ 65536) × (length t.homes.items ≡ length t.ids.items)
-        × (length t.history.entries ≡ length t.ids.items) × (length t.table.leaves ≡ length t.ids.items)
-        × (IfSome t.history.room (λ _. (vec_len t.ids < vec_capacity t.ids) × (vec_len t.homes < vec_capacity t.homes) × (0 < t.table.spare))) };
+    ghost invariant = { λ t. (length t.numbered.ids ≤ 65536) × (length t.numbered.homes ≡ length t.numbered.ids)
+        × (length t.history.entries ≡ length t.numbered.ids) × (length t.table.leaves ≡ length t.numbered.ids)
+        × (IfSome t.history.room (λ _. (0 < t.numbered.spare) × (0 < t.table.spare))) };
 }
 
 impl Tables {
@@ -41,8 +42,7 @@ impl Tables {
         ensures room { result.room ≡ None }
     {
         Tables {
-            ids: Vec::new(alloc),
-            homes: Vec::new(alloc),
+            numbered: Numbered::new(alloc),
             history: History::new(alloc),
             table: NodeTable::new(alloc),
         }
@@ -55,15 +55,15 @@ impl Tables {
         ensures leaves { result ≡ length self.now.leaves }
         ensures few { result ≤ 65536 }
     {
-        self.ids.as_slice().len() as u32
+        self.numbered.len() as u32
     }
 
-    /// The entries' ids.
-    pub fn ids(&self) -> &[Hash]
-        ensures ids { result.now ≡ self.now.ids }
-        ensures few { length self.now.ids ≤ 65536 }
+    /// The place of the entry with this id.
+    pub fn place(&self, id: &Hash) -> Option<u32>
+        ensures { result ≡ place_in self.now.ids id.now }
     {
-        self.ids.as_slice()
+        let index = self.numbered.place(id)?;
+        Some(index as u32)
     }
 
     /// The number of an entry's record.
@@ -71,7 +71,7 @@ impl Tables {
         requires { index < length self.now.homes }
         ensures { slice_get self.now.homes index ≡ Some result }
     {
-        self.homes.as_slice()[index as usize]
+        self.numbered.home(index as usize)
     }
 
     /// The entries' facts.
@@ -99,25 +99,24 @@ impl Tables {
         ensures ok { OnOk result (self.new.room ≡ Some facts.now) }
         ensures err { OnErr result (self.new.room ≡ self.old.room) }
     {
-        self.ids.reserve(1)?;
-        self.homes.reserve(1)?;
+        self.numbered.reserve()?;
         self.table.reserve()?;
         self.history.reserve(facts)?;
         Ok(())
     }
 
-    /// Adds an entry. It takes no memory.
+    /// Adds an entry with a new id. It takes no memory.
     pub fn push(&mut self, id: Hash, home: u64, facts: &Facts, hash: Hash)
         requires few { length self.old.ids < 65536 }
         requires room { self.old.room ≡ Some facts.now }
+        requires new { place_in self.old.ids id ≡ None }
         ensures ids { self.new.ids ≡ self.old.ids ++ id ∷ [] }
         ensures homes { self.new.homes ≡ self.old.homes ++ home ∷ [] }
         ensures facts { self.new.facts ≡ self.old.facts ++ facts.now ∷ [] }
         ensures leaves { self.new.leaves ≡ self.old.leaves ++ hash ∷ [] }
         ensures room { self.new.room ≡ None }
     {
-        self.ids.push(id).unwrap();
-        self.homes.push(home).unwrap();
+        self.numbered.push(id, home);
         self.table.push(hash);
         self.history.push(facts);
     }

@@ -5,9 +5,17 @@ use Rattle.policy_rules.specs.Spelling.{policy_item}
 use Rattle.statement.specs.Said.{said_of}
 use Rattle.log_replay.specs.Judging.{document_in}
 use Rattle.log_replay.specs.Spelling.{HasBytes}
+use Rattle.log_replay.specs.KeptRows.{place_in}
 use Rattle.log_replay.specs.StateSeen.{kept_of}
 use Rattle.log_replay.proofs.Batching.{policy_put, policy_left, batch_made}
+use Rattle.log_replay.proofs.NewIds.{new_id}
 use Rattle.log_replay.proofs.state.State.add_batch.Goals as goal
+
+pub push-requires-clause-new : goal.push-requires-clause-new
+push-requires-clause-new c =
+    let was = c.args.self.now in
+    let s = said_of c.args.checked.now.statement in
+    ap (place_in was.tables.ids) c.args.checked.now.statement.statement_id ∙ new_id (kept_of was) c.args.index c.args.hash c.args.at s c.requires.made
 
 pub invariant_of-self : goal.invariant_of-self
 invariant_of-self c =
