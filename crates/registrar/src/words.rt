@@ -43,17 +43,22 @@ pub enum Outcome {
 }
 
 /// Why nothing was read back.
-#[derive(Clone, Copy, PartialEq, Eq, Debug)]
+#[derive(Clone, Copy, PartialEq, Eq, Debug, Error)]
 pub enum ReadBack {
     /// The log has no such entry.
+    #[error("no entry {index} among {size}")]
     NoEntry { index: u32, size: u32 },
     /// The log had no such size, or it is 0.
+    #[error("no size {old} among those up to {size}")]
     NoSuchSize { old: u32, size: u32 },
     /// What was read of this record isn't what is kept of it.
+    #[error("record {number} was changed")]
     Changed { number: u64 },
     /// A call of the disk failed, and its count of faults rose.
+    #[error("disk fault")]
     DiskFault,
     /// Memory ran out.
+    #[error("out of memory")]
     OutOfMemory,
 }
 

@@ -7,6 +7,7 @@ use cbor_core::Bytes;
 use registrar::Params;
 use sqlite_items::Items;
 use std::alloc::AllocError;
+use thiserror::Error;
 
 /// A log that is begun, the moments that the clock gives, and what a peer sends.
 #[derive(Drop)]
@@ -24,11 +25,13 @@ pub struct Script {
 }
 
 /// Why there is no script, or no replay of one.
-#[derive(Clone, Copy, Debug, PartialEq, Eq)]
+#[derive(Clone, Copy, Debug, PartialEq, Eq, Error)]
 pub enum ScriptStop {
     /// The bytes are no script, or a limit of the log's header is broken.
+    #[error("no script")]
     BadScript,
     /// Memory ran out.
+    #[error("out of memory")]
     OutOfMemory,
 }
 
