@@ -123,3 +123,11 @@ pub said_of_all : {T U : Type 0} (limit : ℕ) (Is : List ℕ → T → Type 0) 
     → ((bytes : List ℕ) → Is bytes x → Says bytes y) → IsAtEnd new → IfSome old (λ left. Says left y)
 said_of_all limit Is Says old new x y a says end =
     Consumes-whole old new a.bytes (λ (left : List ℕ). Says left y) a.taken end (says a.bytes a.says)
+
+-- ---- answers that aren't about the length
+
+pub fault_not_long : (read.ReadFault ≡ read.TooLong → ⊥) × (audit.ReadFault ≡ audit.TooLong → ⊥)
+fault_not_long = (λ is. cc, λ is. cc)
+
+pub memory_not_long : (read.OutOfMemory ≡ read.TooLong → ⊥) × (audit.OutOfMemory ≡ audit.TooLong → ⊥)
+memory_not_long = (λ is. cc, λ is. cc)

@@ -18,9 +18,9 @@ use Rattle.scitt_journal.specs.declared.stops.CreateStop.TheVariants as of_creat
 use Rattle.scitt_journal.specs.Stops.{ExplainsCreate}
 use Rattle.registrar.specs.declared.words.Params.{Params}
 use Rattle.registrar.specs.declared.words.RegistrarStop.{RegistrarStop}
-use Rattle.registrar.specs.declared.words.RegistrarStop.TheVariants.{OutOfMemory}
+use Rattle.registrar.specs.declared.words.RegistrarStop.TheVariants.{BadParams, LogExists, NoLog, Short, BadLog, WrongKey, DiskFault, OutOfMemory}
 use Rattle.registrar.specs.Fits.{Fits, IsHeaded}
-use Rattle.registrar.specs.Opening.{header_with, made_stop, ExplainsBegin}
+use Rattle.registrar.specs.Opening.{header_with, made_stop, ExplainsBegin, ExplainsSigner, ExplainsLog, HasOtherKey}
 
 -- ---- the levels of a key that signs
 
@@ -103,3 +103,26 @@ pub ledger_stops : (Tells : Type 0) (h : Header) (bytes : List ℕ) (before now 
     ExplainsBegin Tells h bytes before now stop
 ledger_stops Tells h bytes before now why stop within is e =
     subst (λ (w : RegistrarStop). ExplainsBegin Tells h bytes before now w) (sym is) (stops_by Tells h bytes before now why within e)
+
+-- a stop of the disk's file is none of the parameters
+pub never_params : (why : CreateStop) → made_stop why ≡ BadParams → ⊥
+never_params of_create.LogExists is = cc
+never_params of_create.DiskFault is = cc
+never_params of_create.OutOfMemory is = cc
+
+-- a want of memory that is answered was one
+pub memory_was : (why : CreateStop) → made_stop why ≡ OutOfMemory → why ≡ of_create.OutOfMemory
+memory_was of_create.LogExists is = absurd (cc)
+memory_was of_create.DiskFault is = absurd (cc)
+memory_was of_create.OutOfMemory is = refl
+
+-- the signer isn't that of the records
+pub signer_stops : (Tells : Type 0) (id seed : List ℕ) (R S : Log) (before now : ℕ) (why : RegistrarStop) → (Tells → S ≡ R) → now ≡ before → ExplainsSigner S id seed why → ExplainsLog Tells id seed R before now why
+signer_stops Tells id seed R S before now BadParams told same e = absurd e
+signer_stops Tells id seed R S before now LogExists told same e = absurd e
+signer_stops Tells id seed R S before now NoLog told same e = absurd e
+signer_stops Tells id seed R S before now (Short at) told same e = absurd e
+signer_stops Tells id seed R S before now (BadLog number why) told same e = absurd e
+signer_stops Tells id seed R S before now (WrongKey kept derived) told same e = (λ tells. subst (λ (L : Log). HasOtherKey L id seed kept derived) (told tells) e, same)
+signer_stops Tells id seed R S before now DiskFault told same e = absurd e
+signer_stops Tells id seed R S before now OutOfMemory told same e = same

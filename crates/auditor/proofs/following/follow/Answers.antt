@@ -1,7 +1,7 @@
 use Rattle.std.proofs.Common.{◌∙◌, ◌<◌, ◌≤◌, length, arith}
 use Rattle.std.proofs.lemmas.Result.{err_from_is_err_and}
 use Rattle.auditor.specs.Streams.{seen}
-use Rattle.auditor.proofs.Audited.{few_records, audits_too_long, audits_refused, audits_found, audits_stopped, taken_more, within_more, longer}
+use Rattle.auditor.proofs.Audited.{few_records, audits_too_long, audits_refused, audits_found, audits_stopped, taken_more, within_more, longer, fault_not_long, memory_not_long}
 use Rattle.auditor.proofs.following.follow.Goals as goal
 
 pub take-requires : goal.take-requires
@@ -33,11 +33,11 @@ records-smaller g c =
 
 pub returns-in-ReadFault-clause-audits : goal.returns-in-ReadFault-clause-audits
 returns-in-ReadFault-clause-audits g c =
-    audits_refused c.args.limit c.records.reader _ _ _ _ _ _ c.records.invariant.limit c.records.invariant.taken (c.in-ReadFault.ensures.takes c.records.invariant.on) (λ e. absurd (cc)) (λ e. absurd (cc))
+    audits_refused c.args.limit c.records.reader _ _ _ _ _ _ c.records.invariant.limit c.records.invariant.taken (c.in-ReadFault.ensures.takes c.records.invariant.on) fault_not_long.0 fault_not_long.1
 
 pub returns-in-OutOfMemory-clause-audits : goal.returns-in-OutOfMemory-clause-audits
 returns-in-OutOfMemory-clause-audits g c =
-    audits_refused c.args.limit c.records.reader _ _ _ _ _ _ c.records.invariant.limit c.records.invariant.taken (c.in-OutOfMemory.ensures.takes c.records.invariant.on) (λ e. absurd (cc)) (λ e. absurd (cc))
+    audits_refused c.args.limit c.records.reader _ _ _ _ _ _ c.records.invariant.limit c.records.invariant.taken (c.in-OutOfMemory.ensures.takes c.records.invariant.on) memory_not_long.0 memory_not_long.1
 
 pub returns-in-TooLong-clause-audits : goal.returns-in-TooLong-clause-audits
 returns-in-TooLong-clause-audits g c =

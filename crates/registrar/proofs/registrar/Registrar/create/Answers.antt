@@ -5,7 +5,7 @@ use Rattle.scitt_journal.specs.Layout.{OneOf}
 use Rattle.log_replay.specs.Records.{Log}
 use Rattle.registrar.specs.Seen.{log_of}
 use Rattle.registrar.specs.Opening.{header_with}
-use Rattle.registrar.proofs.Making.{settled_fits, no_memory, ledger_stops}
+use Rattle.registrar.proofs.Making.{settled_fits, no_memory, ledger_stops, never_params, memory_was}
 use Rattle.registrar.proofs.registrar.Registrar.create.Goals as goal
 
 pub returns-then-not-is_within_limits-clause-stops : goal.returns-then-not-is_within_limits-clause-stops
@@ -33,3 +33,9 @@ returns-clause-stops g c =
 pub returns-clause-stopped : goal.returns-clause-stopped
 returns-clause-stopped g c = λ tells none later.
     subst (λ (b : List ℕ). CrashLeaves (OneOf [] b) (after_sync (g.D.Disk.held c.args.disk)) (g.D.Disk.held c.in-Err-create.refused.disk)) c.in-Ok.ensures.body (c.in-Err-create.ensures.stopped tells none later)
+
+pub returns-clause-params : goal.returns-clause-params
+returns-clause-params g c = λ is. absurd (never_params c.in-Err-create.refused.why (sym c.made_stop.ensures ∙ is))
+
+pub returns-clause-memory : goal.returns-clause-memory
+returns-clause-memory g c = λ is. c.in-Err-create.ensures.memory (memory_was c.in-Err-create.refused.why (sym c.made_stop.ensures ∙ is))
