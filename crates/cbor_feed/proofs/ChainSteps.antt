@@ -10,6 +10,7 @@ use Rattle.cbor_core.specs.declared.tree.Item.{Item}
 use Rattle.cbor_core.specs.Limits.{most_containers}
 use Rattle.cbor_core.specs.Bytes.{IsBytes}
 use Rattle.cbor_core.specs.Reading.{and_then, front_of, read_in, KeyStands}
+use Rattle.cbor_core.specs.Order.{KeySpelled, ReadIsSpelled}
 use Rattle.cbor_core.proofs.StepLemmas.{IsBytes-after}
 use Rattle.cbor_core.proofs.KeyLemmas.{key_stands}
 use Rattle.cbor_feed.specs.declared.containers.Container.{Container}
@@ -44,13 +45,13 @@ room-is frames = room_left (reverse frames) ∙ ap (λ (n : ℕ). most_container
 in_more : (parts : Parts) (held more : List ℕ) → AreIn parts held → AreIn parts (held ++ more)
 in_more (Items left items) held more is = tt
 in_more (Key left pairs last) held more is = (is.0, omega (arith, length-append held more, is.1))
-in_more (Value left pairs key text) held more is = (is.0, omega (arith, length-append held more, is.1))
+in_more (Value left pairs text) held more is = (is.0, omega (arith, length-append held more, is.1))
 in_more (Tag n) held more is = tt
 
 risen_more : (g : Grammar) (room : ℕ) (parts : Parts) (held more : List ℕ) → AreIn parts held → HasRisen g room parts held → HasRisen g room parts (held ++ more)
 risen_more g room (Items left items) held more is risen = tt
 risen_more g room (Key left pairs last) held more is risen = rw (span-more held more last is) risen
-risen_more g room (Value left pairs key text) held more is risen = rw (span-more held more text is) risen
+risen_more g room (Value left (pairs, key) text) held more is risen = rw (span-more held more text is) risen
 risen_more g room (Tag n) held more is risen = tt
 
 level_more : (g : Grammar) (room begin : ℕ) (frame : Frame) (held more : List ℕ) → IsLevel g room begin frame held → IsLevel g room begin frame (held ++ more)
@@ -95,6 +96,11 @@ read_here g frames held item end r = subst (λ (all : List ℕ). read_in g (room
 
 bytes_behind : (held : List ℕ) (n : ℕ) → IsBytes held → IsBytes (drop n held)
 bytes_behind held n fits = IsBytes-after held (take n held) (drop n held) fits (sym (take-append-drop n held))
+
+-- what the next part is has a shortest spelling
+pub part-spelled : ReadIsSpelled → (g : Grammar) (frames : List Frame) (held : List ℕ) (item : Item) (end : ℕ) → IsBytes held → IsRead g frames held item end → KeySpelled g (room_of frames) item
+part-spelled read_is_spelled g frames held item end fits r =
+    read_is_spelled g (room_of frames) (drop (start_of frames) held) item (drop end held) (bytes_behind held (start_of frames) fits) (read_here g frames held item end r)
 
 module _ (g : Grammar) (frame : Frame) (outer : List Frame) (held : List ℕ) (item : Item) (end : ℕ) (fits : IsBytes held) (c : Chain g (frame ∷ outer) held) (r : IsRead g (frame ∷ outer) held item end) where
   stands : KeyStands g (room_of outer - 1) item (span_in held (record { from = frame.start; to = end }))

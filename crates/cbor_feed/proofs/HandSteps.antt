@@ -118,8 +118,8 @@ module _ (g : Grammar) (room : ℕ) (held : List ℕ) (start : ℕ) (item : Item
             ∙ ap (λ (m : ℕ). and_then (part (rest_of more)) (handed g part (Items m front) (held ++ more) end)) one),
       )
 
-  value_says : (left : ℕ) (pairs : List (Item × Item)) (key : Item) (text : Span) → IsIn text held → HasRisen g room (Value left pairs key text) held
-      → Says g room (Value left pairs key text) held start item end (pairs_step left (pairs ++ (key, item) ∷ []) text end)
+  value_says : (left : ℕ) (pairs : List (Item × Item)) (key : Item) (text : Span) → IsIn text held → HasRisen g room (Value left (pairs, key) text) held
+      → Says g room (Value left (pairs, key) text) held start item end (pairs_step left (pairs ++ (key, item) ∷ []) text end)
   unfolding read_pairs
   value_says zero pairs key text is risen = λ more. refl
   value_says (suc n) pairs key text is risen =
@@ -176,12 +176,12 @@ module _ (g : Grammar) (room : ℕ) (held : List ℕ) (start : ℕ) (item : Item
   pub parts-say : (parts : Parts) → AreIn parts held → HasRisen g room parts held → KeyStands g room item (span_in held (record { from = start; to = end })) → Says g room parts held start item end (parts_taken g held start item end parts)
   parts-say (Items left items) is risen stands = items_say left items
   parts-say (Key left pairs last) is risen stands = key_says left pairs last is risen stands (key_row g pairs (span_in held last) item (span_in held (record { from = start; to = end }))) refl
-  parts-say (Value left pairs key text) is risen stands = value_says left pairs key text is risen
+  parts-say (Value left (pairs, key) text) is risen stands = value_says left pairs key text is risen
   parts-say (Tag n) is risen stands = λ more. refl
 
   -- in strict a key above the last one is no earlier one
   pub parts-fresh : (parts : Parts) → HasRisen g room parts held → KeyStands g room item (span_in held (record { from = start; to = end })) → IsFreshAt g held start item end parts
   parts-fresh (Items left items) risen stands = tt
   parts-fresh (Key left pairs last) risen stands = λ strict above. no_key (SpellsIn Strict room) no_writer (unique room) pairs (span_in held last) item (span_in held (record { from = start; to = end })) (risen strict) (stands strict) above
-  parts-fresh (Value left pairs key text) risen stands = tt
+  parts-fresh (Value left pairs text) risen stands = tt
   parts-fresh (Tag n) risen stands = tt

@@ -32,7 +32,7 @@ abbrev pub handed : Grammar → Reader → Parts → List ℕ → ℕ → Item �
 handed g part (Items left items) all start x = and_then (read_each part left (items ++ x.0 ∷ []) x.1) array_of
 handed g part (Key left pairs last) all start x =
     and_then (read_keyed g part pairs (span_in all last) (drop start all) x) (λ y. and_then (read_pairs g part left (pairs ++ y.0 ∷ []) y.1.0 y.1.1) map_of)
-handed g part (Value left pairs key text) all start x = and_then (read_pairs g part left (pairs ++ (key, x.0) ∷ []) (span_in all text) x.1) map_of
+handed g part (Value left (pairs, key) text) all start x = and_then (read_pairs g part left (pairs ++ (key, x.0) ∷ []) (span_in all text) x.1) map_of
 handed g part (Tag n) all start x = tag_of n x
 
 -- how many containers may be opened inside these
@@ -49,7 +49,7 @@ start_of (frame ∷ outer) = frame.start
 abbrev pub HasRisen : Grammar → ℕ → Parts → List ℕ → Type 0
 HasRisen g room (Items left items) held = Unit {0}
 HasRisen g room (Key left pairs last) held = KeysRise g room pairs (span_in held last)
-HasRisen g room (Value left pairs key text) held = (value : Item) → KeysRise g room (pairs ++ (key, value) ∷ []) (span_in held text)
+HasRisen g room (Value left (pairs, key) text) held = (value : Item) → KeysRise g room (pairs ++ (key, value) ∷ []) (span_in held text)
 HasRisen g room (Tag n) held = Unit {0}
 
 -- the container that begins there comes to what its next part makes of it, whatever follows the bytes held

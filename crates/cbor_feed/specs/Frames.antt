@@ -26,7 +26,7 @@ IsIn span bytes = (span.from ≤ span.to) × (span.to ≤ length bytes)
 abbrev pub AreIn : Parts → List ℕ → Type 0
 AreIn (Items left items) held = Unit {0}
 AreIn (Key left pairs last) held = IsIn last held
-AreIn (Value left pairs key text) held = IsIn text held
+AreIn (Value left pairs text) held = IsIn text held
 AreIn (Tag n) held = Unit {0}
 
 -- in strict a key above the last one is no earlier one
@@ -37,7 +37,7 @@ IsFresh g held pairs last key text = is_strict g ≡ true → is_below (span_in 
 abbrev pub IsFreshAt : Grammar → List ℕ → ℕ → Item → ℕ → Parts → Type 0
 IsFreshAt g held start item end (Items left items) = Unit {0}
 IsFreshAt g held start item end (Key left pairs last) = IsFresh g held pairs last item (record { from = start; to = end })
-IsFreshAt g held start item end (Value left pairs key text) = Unit {0}
+IsFreshAt g held start item end (Value left pairs text) = Unit {0}
 IsFreshAt g held start item end (Tag n) = Unit {0}
 
 abbrev pub IsFreshIn : Grammar → List ℕ → Frame → Item → ℕ → Type 0
@@ -56,7 +56,7 @@ pairs_step left pairs text end =
 -- a map whose key is judged
 abbrev pub key_judged : Option Why → ℕ → List (Item × Item) → Item → Span → Step
 key_judged (Some why) left pairs key text = Stuck why
-key_judged None left pairs key text = Goes (record { start = text.to; parts = Value left pairs key text })
+key_judged None left pairs key text = Goes (record { start = text.to; parts = Value left (pairs, key) text })
 
 abbrev pub key_step : Grammar → List ℕ → ℕ → List (Item × Item) → Span → Item → Span → Step
 key_step g held left pairs last key text = key_judged (key_row g pairs (span_in held last) key (span_in held text)) left pairs key text
@@ -64,7 +64,7 @@ key_step g held left pairs last key text = key_judged (key_row g pairs (span_in 
 abbrev pub parts_taken : Grammar → List ℕ → ℕ → Item → ℕ → Parts → Step
 parts_taken g held start item end (Items left items) = items_step left (items ++ item ∷ []) end
 parts_taken g held start item end (Key left pairs last) = key_step g held left pairs last item (record { from = start; to = end })
-parts_taken g held start item end (Value left pairs key text) = pairs_step left (pairs ++ (key, item) ∷ []) text end
+parts_taken g held start item end (Value left (pairs, key) text) = pairs_step left (pairs ++ (key, item) ∷ []) text end
 parts_taken g held start item end (Tag n) = Whole (record { node = TagNode n item })
 
 -- a container that is handed its next part, which ends there

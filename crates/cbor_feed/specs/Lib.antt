@@ -1,6 +1,7 @@
 pub mod Heads
 pub mod Containers
 pub mod Parts
+pub mod Keys
 pub mod Frames
 pub mod Chains
 pub mod Feeding

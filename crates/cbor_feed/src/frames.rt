@@ -1,7 +1,8 @@
 ghost use Rattle.std.specs.Prelude.{◌≡◌, ◌≤◌, IfOk, length};
+ghost use Rattle.cbor_core.specs.Order.{KeySpelled};
 ghost use Rattle.cbor_feed.specs.Frames.{items_step as step_of_items, pairs_step as step_of_pairs, key_step as step_of_key, taken, span_in, IsFresh, IsFreshIn, IsIn, AreIn};
 
-use crate::keys::{KeyedPairs, key_why};
+use crate::keys::{KeyedPairs, PairsWithKey};
 use cbor_core::{Grammar, Item, Node, Why};
 use sqlite_items::{Boxed, Items};
 use std::alloc::{AllocError, Global};
@@ -20,8 +21,8 @@ pub enum Parts {
     Items(u64, Items<Item>),
     /// A map's pairs and where the last key is spelled. The next part is a key.
     Key(u64, KeyedPairs, Span),
-    /// A map's pairs, and the key behind them with where it is spelled. The next part is its value.
-    Value(u64, KeyedPairs, Item, Span),
+    /// A map's pairs and the key behind them, and where it is spelled. The next part is its value.
+    Value(u64, PairsWithKey, Span),
     /// A tag's number: the next part is what it tags.
     Tag(u64),
 }
@@ -81,31 +82,35 @@ fn span_of(bytes: &[u8], span: Span) -> &[u8]
 
 fn key_step(
     g: Grammar,
+    room: u8,
     held: &[u8],
     left: u64,
     pairs: KeyedPairs,
     last: Span,
     key: Item,
     text: Span,
-) -> Step
+) -> Result<Step, AllocError>
     requires last { IsIn last held.now }
     requires text { IsIn text held.now }
     requires fresh { IsFresh g held.now pairs last key text }
-    ensures { result ≡ step_of_key g held.now left pairs last key text }
+    requires spelled { KeySpelled g room key }
+    ensures { IfOk result (λ step. step ≡ step_of_key g held.now left pairs last key text) }
 {
-    match key_why(g, &pairs, span_of(held, last), &key, span_of(held, text)) {
-        Some(why) => Step::Stuck(why),
-        None => Step::Goes(Frame {
+    let (pairs, why) = pairs.with_key(g, room, span_of(held, last), key, span_of(held, text))?;
+    match why {
+        Some(why) => Ok(Step::Stuck(why)),
+        None => Ok(Step::Goes(Frame {
             start: text.to,
-            parts: Parts::Value(left, pairs, key, text),
-        }),
+            parts: Parts::Value(left, pairs, text),
+        })),
     }
 }
 
-/// Hands a container its next part, which ends there.
+/// Hands a container its next part, which ends there. So many containers may be opened inside it.
 pub fn frame_with(
     alloc: Global,
     g: Grammar,
+    room: u8,
     held: &[u8],
     frame: Frame,
     item: Item,
@@ -115,6 +120,7 @@ pub fn frame_with(
     requires end { end ≤ length held.now }
     requires spans { AreIn frame.parts held.now }
     requires fresh { IsFreshIn g held.now frame item end }
+    requires spelled { KeySpelled g room item }
     ensures { IfOk result (λ step. step ≡ taken g held.now frame item end) }
 {
     let Frame { start, parts } = frame;
@@ -129,11 +135,10 @@ pub fn frame_with(
                 from: start,
                 to: end,
             };
-            Ok(key_step(g, held, left, pairs, last, item, text))
+            key_step(g, room, held, left, pairs, last, item, text)
         }
-        Parts::Value(left, pairs, key, text) => {
-            let mut pairs = pairs;
-            pairs.push(key, item)?;
+        Parts::Value(left, pairs, text) => {
+            let pairs = pairs.with_value(item)?;
             Ok(pairs_step(left, pairs, text, end))
         }
         Parts::Tag(n) => {

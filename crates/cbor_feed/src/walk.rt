@@ -1,12 +1,12 @@
 ghost use Rattle.std.specs.Prelude.{◌≡◌, ℕ, ◌≤◌, IfOk, length, reverse};
 ghost use Rattle.cbor_feed.specs.Chains.{opened_parts};
-ghost use Rattle.cbor_feed.specs.Chains.{start_of, Chain, IsRead, IsStopped, HasSettled, HasWalked};
+ghost use Rattle.cbor_feed.specs.Chains.{room_of, start_of, Chain, IsRead, IsStopped, HasSettled, HasWalked};
 
 use crate::containers::Container;
 use crate::frames::{Frame, Parts, Span, Step, frame_with};
 use crate::keys::KeyedPairs;
 use crate::parts::{Part, PartStop, part_of};
-use cbor_core::{Fault, Grammar, Item, Why};
+use cbor_core::{Fault, Grammar, Item, Why, read_keys_are_spelled};
 use sqlite_items::Items;
 use std::alloc::{AllocError, Global};
 
@@ -45,14 +45,21 @@ pub fn place(frames: &[Frame]) -> usize
     }
 }
 
-fn parts_of(alloc: Global, container: Container) -> Parts
+// How many containers may be opened inside these.
+fn room_in(frames: &[Frame]) -> u8
+    ensures { result ≡ room_of (reverse frames.now) }
+{
+    MOST_CONTAINERS.saturating_sub(frames.len()) as u8
+}
+
+fn parts_of(alloc: Global, room: u8, container: Container) -> Parts
     ensures { result ≡ opened_parts container }
 {
     match container {
         Container::Array(n) => Parts::Items(n.saturating_sub(1), Items::new(alloc)),
         Container::Map(n) => Parts::Key(
             n.saturating_sub(1),
-            KeyedPairs::new(alloc),
+            KeyedPairs::new(alloc, room),
             Span { from: 0, to: 0 },
         ),
         Container::Tag(n) => Parts::Tag(n),
@@ -82,10 +89,12 @@ fn settle(
     requires item { IsRead g (reverse frames.old.items) held.now item end }
     ensures { IfOk result (λ settled. HasSettled g (reverse frames.new.items) held.now end settled) }
 {
+    read_keys_are_spelled();
     let mut item = item;
     while let Some(frame) = frames.pop() {
         let start = frame.start;
-        match frame_with(alloc, g, held, frame, item, end)? {
+        let room = room_in(frames.as_slice()).saturating_sub(1);
+        match frame_with(alloc, g, room, held, frame, item, end)? {
             Step::Goes(frame) => {
                 frames.push(frame)?;
                 return Ok(Settled::Goes);
@@ -113,7 +122,7 @@ pub fn walk(
 {
     let mut at = place(frames.as_slice());
     loop {
-        let room = MOST_CONTAINERS.saturating_sub(frames.len()) as u8;
+        let room = room_in(frames.as_slice());
         match part_of(alloc, g, room, &held[at..]) {
             Ok(Part::Whole(item, len)) => {
                 at += len;
@@ -127,7 +136,7 @@ pub fn walk(
                 at += len;
                 frames.push(Frame {
                     start: at,
-                    parts: parts_of(alloc, container),
+                    parts: parts_of(alloc, room.saturating_sub(1), container),
                 })?;
             }
             Err(PartStop::At(why)) => return Ok(stopped(at, why)),

@@ -1,4 +1,4 @@
-use super::said::{Verdict, agree, decoded, fed_by_bytes};
+use super::said::{Verdict, agree, decoded, fed_by_bytes, fed_in_two};
 use cbor_core::{Grammar, Why};
 use cbor_feed::{Fed, Feed};
 use std::alloc::{AllocError, Global};
@@ -42,6 +42,23 @@ fn keys(alloc: Global, falling: bool) -> Result<Vec<u8>, AllocError> {
     Ok(bytes)
 }
 
+/// An array of 8 maps of 4,096 keys in mixed order. A key is an array of 64 numbers, of which the last alone differs from key to key.
+fn maps(alloc: Global) -> Result<Vec<u8>, AllocError> {
+    let mut bytes = Vec::from_slice(alloc, &[0x88])?;
+    for _ in 0..8 {
+        bytes.extend_from_slice(&[0xb9, 0x10, 0x00])?;
+        for i in 0..4096u16 {
+            bytes.extend_from_slice(&[0x98, 0x40])?;
+            bytes.extend_from_slice(&[0; 63])?;
+            bytes.push(0x19)?;
+            let last = i.wrapping_mul(2731) % 4096;
+            bytes.extend_from_slice(&last.to_be_bytes())?;
+            bytes.push(0)?;
+        }
+    }
+    Ok(bytes)
+}
+
 fn is_read(alloc: Global, grammar: Grammar, bytes: &[u8]) -> bool {
     match fed_by_bytes(alloc, grammar, bytes) {
         Verdict::Item(_, len) => len == bytes.len(),
@@ -73,6 +90,30 @@ fn a_mib_of_keys_is_read_a_byte_at_a_time(rt: HostRuntime) -> Result<(), Fail> {
     assert!(rt; is_read(alloc, Grammar::Strict, rising.as_slice()));
     let falling = keys(alloc, true)?;
     assert!(rt; is_read(alloc, Grammar::Wide, falling.as_slice()));
+    Ok(())
+}
+
+#[test]
+fn wide_maps_in_mixed_order_are_read_in_pieces(rt: HostRuntime) -> Result<(), Fail> {
+    let alloc = rt.alloc();
+    let mut bytes = maps(alloc)?;
+    let len = bytes.len();
+    assert!(rt; len > 2_000_000);
+    let whole = decoded(alloc, Grammar::Wide, bytes.as_slice());
+    assert!(rt; is_read(alloc, Grammar::Wide, bytes.as_slice()));
+    assert!(rt;
+        agree(
+            &fed_in_two(alloc, Grammar::Wide, bytes.as_slice(), 1_000_000),
+            &whole
+        )
+    );
+    // The last key is the first one once more, and its value isn't there yet.
+    bytes[len - 3] = 0;
+    bytes[len - 2] = 0;
+    assert_eq!(rt;
+        why(alloc, Grammar::Wide, &bytes[..len - 1]),
+        Some(Why::DupKey)
+    );
     Ok(())
 }
 
