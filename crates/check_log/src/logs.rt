@@ -137,6 +137,9 @@ fn compare_state(rt: &impl Abort, alloc: Global, state: &mut State) -> Result<()
         );
     }
     assert_eq!(rt; state.size(), 3);
+    for index in 0..state.size() {
+        assert_eq!(rt; state.record_of(index), u64::from(index) + 2);
+    }
     assert_eq!(rt; state.reserved(), 4);
     assert_eq!(rt; state.last_moment(), 1001);
     Ok(())
