@@ -26,7 +26,7 @@ fn come_back(
                 return Err("what is printed isn't written".into());
             };
             assert!(rt; again.as_slice() == bytes.as_slice(), "{row}");
-            count += 1;
+            count = count.saturating_add(1);
         }
     }
     assert_eq!(rt; count, wanted);
@@ -80,6 +80,9 @@ fn others_are_refused(rt: HostRuntime) -> Result<(), Fail> {
     let mut more = Vec::new(alloc);
     more.extend_from_slice(bytes.as_slice())?;
     let end = more.len();
+    if end < 8 {
+        return Err("too few bytes".into());
+    }
     for place in end - 8..end {
         more[place] = 0;
     }
