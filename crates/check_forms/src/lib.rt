@@ -7,4 +7,6 @@ mod forms;
 #[cfg(test)]
 mod limits;
 #[cfg(test)]
+mod shown;
+#[cfg(test)]
 mod vectors;

@@ -1,2 +1,1 @@
 pub mod Dues
-pub mod Reading

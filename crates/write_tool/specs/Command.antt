@@ -1,22 +1,24 @@
--- The commands, and the words of each: a kind of form and the file that has it.
+-- The commands, and the words of each: what is asked for, and the file that it is asked of.
 use Rattle.std.specs.Prelude.{ℕ, List, [], ◌∷◌, Option, Some, None, if◌then◌else◌, codes}
 use Rattle.std.specs.Str.{bytes_eq}
-use Rattle.write_tool.specs.declared.command.Kind.{Kind}
 use Rattle.write_tool.specs.declared.command.Kind.TheVariants.{Policy, Params, Trust}
+use Rattle.write_tool.specs.declared.command.Task.{Task}
+use Rattle.write_tool.specs.declared.command.Task.TheVariants.{Write, Show}
 
 pub record Command : Type 0 where
-  pub kind : Kind
+  pub task : Task
   pub file : List ℕ
 
-abbrev pub command : Kind → List ℕ → Command
-command kind file = record { kind = kind; file = file }
+abbrev pub command : Task → List ℕ → Command
+command task file = record { task = task; file = file }
 
 abbrev pub with_one : List ℕ → List ℕ → Option Command
 with_one name file =
-    if bytes_eq name (codes "policy") then Some (command Policy file)
-    else (if bytes_eq name (codes "params") then Some (command Params file)
-    else (if bytes_eq name (codes "trust") then Some (command Trust file)
-    else None))
+    if bytes_eq name (codes "policy") then Some (command (Write Policy) file)
+    else (if bytes_eq name (codes "params") then Some (command (Write Params) file)
+    else (if bytes_eq name (codes "trust") then Some (command (Write Trust) file)
+    else (if bytes_eq name (codes "show") then Some (command Show file)
+    else None)))
 
 -- the command that these words are, exactly
 abbrev pub command_of : List (List ℕ) → Option Command

@@ -1,4 +1,3 @@
-pub mod Text
 pub mod Answer
 pub mod Command
 pub mod Meaning

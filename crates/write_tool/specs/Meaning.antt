@@ -3,4 +3,4 @@ use Rattle.write_tool.specs.declared.command.Command.{Command as Read}
 use Rattle.write_tool.specs.Command.{Command}
 
 abbrev pub meaning : Read → Command
-meaning c = record { kind = c.kind; file = c.file.now }
+meaning c = record { task = c.task; file = c.file.now }

@@ -1,34 +1,17 @@
 -- A run: what it was to answer, and what it wrote.
-use Rattle.std.specs.Prelude.{◌≡◌, ◌<◌, ◌≤◌, ◌≢◌, ◌⊎◌, ◌++◌, ℕ, List, length, Some, None, Result, Ok, Err, IsSome, IfSome}
+use Rattle.std.specs.Prelude.{◌≡◌, ◌≢◌, ◌⊎◌, ℕ, List, Some, None, IsSome}
 use Rattle.std.specs.declared.option.Option.{Option}
-use Rattle.std.specs.Global.{Vec}
 use Rattle.scitt_io.specs.Causes.{Rose}
-use Rattle.scitt_io.specs.declared.source.ReadStop.{ReadStop}
-use Rattle.scitt_io.specs.declared.source.ReadStop.TheVariants.{TooLong, ReadFault, OutOfMemory}
+pub use Rattle.command_line.specs.Reads.{FileOf, TellsFile, ReadOf}
 use Rattle.write_tool.specs.Answer.{Answer, Says, words_refused, unread}
 use Rattle.write_tool.specs.Command.{Command, command_of}
-use Rattle.write_tool.specs.Texts.{AnsweredTo, limit}
-
--- the file of each name
-abbrev pub FileOf : Type 0
-FileOf = List ℕ → Option (List ℕ)
-
--- what a file of this name has, where files are told; none where it is missing
-abbrev pub TellsFile : Option FileOf → List ℕ → Option (List ℕ) → Type 0
-TellsFile told name content = IfSome told (λ file_of. file_of name ≡ content)
-
--- the file's bytes within the limit, or it is longer; nothing is said of a refused read
-abbrev pub ReadOf : Option (List ℕ) → Result (Vec ℕ) ReadStop → Type 0
-ReadOf content (Ok bytes) = (content ≡ Some bytes.items) × (length bytes.items ≤ limit)
-ReadOf content (Err TooLong) = (bytes : List ℕ) × (content ≡ Some bytes) × (limit < length bytes)
-ReadOf content (Err ReadFault) = Unit {0}
-ReadOf content (Err OutOfMemory) = Unit {0}
+use Rattle.write_tool.specs.Texts.{AnsweredTo}
 
 -- what a command's file calls for
 pub record CommandText (told : Option FileOf) (command : Command) (answer : Answer) : Type 0 where
   pub content : Option (List ℕ)
   pub file : TellsFile told command.file content
-  pub answered : AnsweredTo command.kind content answer
+  pub answered : AnsweredTo command.task content answer
 
 -- what words and files call for
 abbrev pub TextOf : Option FileOf → Option Command → Answer → Type 0

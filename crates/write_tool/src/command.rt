@@ -18,26 +18,36 @@ pub enum Kind {
     Trust,
 }
 
-/// A kind of form, and the file that has it.
+/// What is asked for.
+#[derive(Debug, Clone, Copy, PartialEq, Eq)]
+pub enum Task {
+    /// The strict bytes of a form's document.
+    Write(Kind),
+    /// `show FILE`: the form of a policy's bytes.
+    Show,
+}
+
+/// What is asked for, and the file that it is asked of.
 #[derive(Clone, Copy)]
 pub(crate) struct Command<'a> {
-    pub kind: Kind,
+    pub task: Task,
     pub file: &'a str,
 }
 
-fn with_file(kind: Kind, file: &str) -> Command<'_>
-    ensures { meaning result ≡ said.command kind file.now }
+fn with_file(task: Task, file: &str) -> Command<'_>
+    ensures { meaning result ≡ said.command task file.now }
 {
-    Command { kind, file }
+    Command { task, file }
 }
 
 fn with_one<'a>(name: &str, file: &'a str) -> Option<Command<'a>>
     ensures { option_map meaning result ≡ said.with_one name.now file.now }
 {
     match name {
-        "policy" => Some(with_file(Kind::Policy, file)),
-        "params" => Some(with_file(Kind::Params, file)),
-        "trust" => Some(with_file(Kind::Trust, file)),
+        "policy" => Some(with_file(Task::Write(Kind::Policy), file)),
+        "params" => Some(with_file(Task::Write(Kind::Params), file)),
+        "trust" => Some(with_file(Task::Write(Kind::Trust), file)),
+        "show" => Some(with_file(Task::Show, file)),
         _ => None,
     }
 }

@@ -3,10 +3,8 @@
 
 mod answer;
 mod command;
-mod file;
 mod run;
 mod text;
 
-pub use answer::Status;
-pub use command::Kind;
+pub use command::{Kind, Task};
 pub use run::run_write;

@@ -6,15 +6,18 @@ ghost use Rattle.scitt_io.specs.Causes.{Rose};
 ghost use Rattle.write_tool.specs.Command.{command_of as command_said, files_of};
 ghost use Rattle.write_tool.specs.Run.{IsDue, Answers};
 
-use crate::answer::{Answer, Status, too_long, unread, words_refused};
+use crate::answer::too_long;
 use crate::command::command_of;
-use crate::file::read_file;
 use crate::text::answer_to;
+use command_line::{Answer, Status, read_file, unread, words_refused};
 use scitt_io::{Folder, ReadStop, Sink, Words};
 use std::alloc::{AllocError, Global};
 
 /// Status 5: there was no memory.
 const NO_MEMORY: Status = 5;
+
+/// The longest file, in bytes.
+const LIMIT: u64 = 16_777_216;
 
 fn answer<F: Folder>(alloc: Global, words: &Words, files: &mut F) -> Result<Answer, AllocError>
     ensures due { IfOk result (IsDue (F.files files.old) words.now (F.faults files.old) (F.faults files.new)) }
@@ -31,8 +34,8 @@ fn answer<F: Folder>(alloc: Global, words: &Words, files: &mut F) -> Result<Answ
     let Some(command) = command_of(words) else {
         return Ok(words_refused());
     };
-    match read_file(alloc, files, command.file) {
-        Ok(bytes) => answer_to(alloc, command.kind, bytes.as_slice()),
+    match read_file(alloc, files, command.file, LIMIT) {
+        Ok(bytes) => answer_to(alloc, command.task, bytes.as_slice()),
         Err(ReadStop::TooLong) => Ok(too_long()),
         Err(ReadStop::ReadFault) => Ok(unread()),
         Err(ReadStop::OutOfMemory) => Err(AllocError),
@@ -43,8 +46,8 @@ fn answer<F: Folder>(alloc: Global, words: &Words, files: &mut F) -> Result<Answ
 ///
 /// | Status | Where | Text |
 /// |---|---|---|
-/// | 0 | the form was written, and the file read to its end | the strict bytes of its document |
-/// | 1 | the form is refused by a written rule | one line, `refused` with the table, the key and the reason |
+/// | 0 | the form was written, or the document shown, and the file read to its end | the strict bytes of the form's document, or the document's form |
+/// | 1 | refused by a written rule | one line, `refused` with the table, the key and the reason; to `show`, `refused no policy` or `refused no form` |
 /// | 2 | the words name no command | `words refused` |
 /// | 3 | the folder refused a call | `read fault` |
 /// | 4 | the sink refused a write | a part of the text |

@@ -3,13 +3,14 @@
 ghost use Rattle.std.specs.Prelude.{◌≡◌, ◌++◌, IfOk, ◌≤◌};
 ghost use Rattle.std.specs.String.{string_bytes};
 ghost use Rattle.scitt_forms.specs.RefusalText.{refusal_text};
-ghost use Rattle.write_tool.specs.Answer.{IsAnswer, refused as refused_by};
+ghost use Rattle.write_tool.specs.Answer.{IsAnswer, IsShownAs, refused as refused_by};
 ghost use Rattle.write_tool.specs.Texts.{Written, WrittenOf, Answered};
 
-use crate::answer::Answer;
-use crate::command::Kind;
+use crate::command::{Kind, Task};
 use cbor_core::Bytes;
+use command_line::Answer;
 use scitt_forms::{FormStop, Place, Refusal, Why, Word, write_policy};
+use shown_forms::{ShowStop, show_policy};
 use std::alloc::{AllocError, Global};
 use write_params::write_params;
 use write_trust::write_trust;
@@ -65,10 +66,25 @@ fn answer_of(alloc: Global, written: Result<Bytes, FormStop>) -> Result<Answer, 
     }
 }
 
-/// What a command answers to the bytes of its file.
-pub(crate) fn answer_to(alloc: Global, kind: Kind, bytes: &[u8]) -> Result<Answer, AllocError>
-    ensures answered { IfOk result (Answered kind bytes.now) }
+fn shown(shown: Result<String, ShowStop>) -> Result<Answer, AllocError>
+    ensures is { IfOk result (IsShownAs shown) }
     ensures status { IfOk result (λ answer. answer.status ≤ 1) }
 {
-    answer_of(alloc, written_of(alloc, kind, bytes))
+    match shown {
+        Ok(text) => Ok(Answer::made(0, text)),
+        Err(ShowStop::NoDocument) => Ok(Answer::fixed(1, "refused no policy\n")),
+        Err(ShowStop::NoForm) => Ok(Answer::fixed(1, "refused no form\n")),
+        Err(ShowStop::OutOfMemory) => Err(AllocError),
+    }
+}
+
+/// What a command answers to the bytes of its file.
+pub(crate) fn answer_to(alloc: Global, task: Task, bytes: &[u8]) -> Result<Answer, AllocError>
+    ensures answered { IfOk result (Answered task bytes.now) }
+    ensures status { IfOk result (λ answer. answer.status ≤ 1) }
+{
+    match task {
+        Task::Write(kind) => answer_of(alloc, written_of(alloc, kind, bytes)),
+        Task::Show => shown(show_policy(alloc, bytes)),
+    }
 }

@@ -1,0 +1,4 @@
+pub mod Tables
+pub mod Conditions
+pub mod Policies
+pub mod Showing
