@@ -1,5 +1,7 @@
 -- What there is to answer to `audit`, whose file is read a record at a time.
 use Rattle.std.proofs.Common.{◌≡◌, ◌≤◌, ◌<◌, ◌+◌, ℕ, List, [], ◌∷◌, ◌++◌, length, Option, Some, None, Result, Ok, Err, OnOk, IfOk, IfSome, inl, inr, refl, sym, ap, ◌∙◌, subst, arith, length-append, append-nil}
+use Rattle.std.specs.Prelude.{codes}
+use Rattle.std.specs.Fmt.{digits, decimal}
 use Rattle.std.specs.Io.KnownBytes.{Consumes, IsAtEnd}
 use Rattle.scitt_io.specs.Files.{ReadsFile}
 use Rattle.scitt_io.specs.declared.source.ReadStop.{ReadStop}
@@ -10,7 +12,7 @@ use Rattle.auditor.specs.declared.words.AuditStop.{AuditStop}
 use Rattle.auditor.specs.declared.words.AuditStop.TheVariants as audit
 use Rattle.auditor.specs.declared.words.Report.{Report}
 use Rattle.auditor.specs.declared.words.Report.TheVariants as report
-use Rattle.scitt_tool.specs.Answer.{Answer}
+use Rattle.scitt_tool.specs.Answer.{Answer, line}
 use Rattle.scitt_tool.specs.Audit.{report_answer, log_limit, AuditedOf, AuditsFile, IsReported, IsPast}
 use Rattle.scitt_tool.specs.Command.{Audit, command_of}
 use Rattle.scitt_tool.specs.Reads.{FileOf, TellsFile, TellsFiles, StopsAt}
@@ -18,6 +20,11 @@ use Rattle.scitt_tool.specs.Run.{Counts, Outside, JudgedOver, IsDue}
 use Rattle.scitt_tool.proofs.Dues.{plain_over, due_ok, due_too_long, due_unread}
 
 -- ---- what the named file gives
+
+-- some content is the one that is told, where files are told
+pub some_content : (told : Option FileOf) (name : List ℕ) → (content : Option (List ℕ)) × TellsFile told name content
+some_content None name = (None, tt)
+some_content (Some file_of) name = (file_of name, refl)
 
 -- the bytes taken are all that was left
 all_taken : (left taken : List ℕ) (new : Option (List ℕ)) → Consumes (Some left) new taken → IsAtEnd new → left ≡ taken
@@ -48,6 +55,14 @@ audit_passes limit None name left new chosen audits =
 audit_passes limit (Some file_of) name left new chosen audits =
     let more = some_left chosen.bytes audits.bytes new (rw chosen.opened at audits.taken) in
     (file_of name, refl, (chosen.bytes, chosen.found, omega (arith, audits.too_long.0 refl, more)))
+
+pub is_too_long : (limit : ℕ) (left new : Option (List ℕ)) (e : AuditStop) → e ≡ audit.TooLong → Audits {T = Report} limit Reports left new (Err e) → Audits {T = Report} limit Reports left new (Err audit.TooLong)
+is_too_long limit left new e is audits = subst (λ (x : AuditStop). Audits {T = Report} limit Reports left new (Err x)) is audits
+
+-- how the limit of a log's file is printed
+pub long_log : line (codes "too long " ++ decimal 3221225472) ≡ codes "too long 3221225472\n"
+unfolding digits
+long_log = refl
 
 -- ---- what is due
 
