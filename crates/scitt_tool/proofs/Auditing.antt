@@ -37,7 +37,7 @@ some_left left taken (Some rest) is = rw is (omega (arith, length-append taken r
 
 short_enough : (limit : ℕ) (left new : Option (List ℕ)) (report : Report) (audits : Audits limit Reports left new (Ok report)) → length audits.bytes ≤ limit
 short_enough limit left new report audits =
-    let apart : length audits.bytes ≡ limit + 1 → ⊥ = λ e. absurd (audits.too_long.1 e) in
+    let apart : length audits.bytes ≡ limit + 1 → ⊥ = λ e. let same : ◌≡◌ {A = Result Report AuditStop} (Ok report) (Err audit.TooLong) = audits.too_long.1 e in cc in
     omega (arith, audits.within, apart)
 
 pub audit_tells : (limit : ℕ) (told : Option FileOf) (name : List ℕ) (left new : Option (List ℕ)) (report : Report) → IfSome told (λ file_of. ReadsFile (file_of name) left)
@@ -81,8 +81,8 @@ module _ (Tells : Type 0) (outside : Outside) (words : List (List ℕ)) (file : 
   due_reported answer r =
       let bytes = r.audited.0 in
       let over : JudgedOver Tells outside.old outside.new outside.random (Audit file) (bytes ∷ []) answer =
-      rw held (plain_over Tells outside.old outside.random (Audit file) (bytes ∷ []) answer (λ key_bytes random_bytes. (record { report = r.report; says = r.audited.2.2; is = r.is }, refl))) in
-      due_ok Tells outside words (Audit file) before now some (r.content ∷ []) (bytes ∷ []) answer (tells_one outside.files file r.content r.tells) (λ empty. cc) (ap (λ (c : Option (List ℕ)). c ∷ []) r.audited.1, (r.audited.2.1, tt)) over
+      rw held (plain_over Tells outside.old outside.random (Audit file) (bytes ∷ []) answer (λ key_bytes random_bytes. (record { report = r.report; says = r.audited.3; is = r.is }, refl))) in
+      due_ok Tells outside words (Audit file) before now some (r.content ∷ []) (bytes ∷ []) answer (tells_one outside.files file r.content r.tells) (λ empty. cc) (ap (λ (c : Option (List ℕ)). c ∷ []) r.audited.1, (r.audited.2, tt)) over
       (inl (rw r.is (report_status r.report))) r.calm random key
 
   due_past : (answer : Answer) → IsPast outside.files file before.files now.files answer → IsDue Tells outside words before now answer
