@@ -89,7 +89,7 @@ module _ (Tells : Type 0) (outside : Outside) (words : List (List ℕ)) (command
   is_some_command = subst (λ (o : Option Command). IsSome o) (sym some) refl
 
   -- it was judged by the bytes of its files
-  due_ok : (contents : List (Option (List ℕ))) (read : List (List ℕ)) (answer : Answer) → TellsFiles outside.files (files_of command) contents → (files_of command ≡ [] → read ≡ []) → ReadAll (limit_of command) contents read
+  pub due_ok : (contents : List (Option (List ℕ))) (read : List (List ℕ)) (answer : Answer) → TellsFiles outside.files (files_of command) contents → (files_of command ≡ [] → read ≡ []) → ReadAll (limit_of command) contents read
       → JudgedOver Tells outside.old outside.new outside.random command read answer → (answer.status ≤ 1) ⊎ (answer.status ≡ 7)
       → now.files ≡ before.files → now.random ≡ before.random → now.key ≡ before.key → IsDue Tells outside words before now answer
   due_ok contents read answer told none all over status files random key =

@@ -6,6 +6,7 @@ pub mod Making
 pub mod Attaching
 pub mod Dues
 pub mod Runs
+pub mod Auditing
 pub mod Keys
 pub mod Signing
 pub mod OneText

@@ -1,23 +1,78 @@
-ghost use Rattle.std.specs.Prelude.{◌≡◌, IfOk};
+ghost use Rattle.std.specs.Prelude.{◌≡◌, ◌≤◌, ◌⊎◌, ℕ, List, [], ◌∷◌, ◌++◌, Option, IfOk, OnOk, OnErr, IsErrOf, is_some};
+ghost use Rattle.std.specs.Io.KnownBytes.{IsAtEnd};
 ghost use Rattle.std.specs.String.{string_bytes};
-ghost use Rattle.scitt_tool.specs.Answer.{line};
-ghost use Rattle.scitt_tool.specs.Audit.{AuditOf, report_answer, count_text, end_text, clean_text, record_text, verdict_text, bad_text, rule_name as name_of_rule};
+ghost use Rattle.scitt_io.specs.Causes.{Rose};
+ghost use Rattle.scitt_tool.specs.Answer.{line, too_long};
+ghost use Rattle.scitt_tool.specs.Reads.{TellsFile};
+ghost use Rattle.scitt_tool.specs.Audit.{AuditedOf, AuditsFile, log_limit, report_answer, count_text, end_text, clean_text, record_text, verdict_text, bad_text, rule_name as name_of_rule};
 
 use crate::lines::push_line;
-use auditor::{Report, audit_bytes};
-use command_line::Answer;
+use auditor::{AuditStop, Report, audit as audit_log};
+use command_line::{Answer, unread};
 use log_replay::Why;
 use merkle_tree::Hash;
+use scitt_io::{Folder, ReadStop};
 use std::alloc::{AllocError, Global};
 
-/// What `audit` answers of a file's bytes.
-pub(crate) fn audit(alloc: Global, bytes: &[u8]) -> Result<Answer, AllocError>
-    ensures { IfOk result (AuditOf bytes.now) }
+/// How long a log's file may be, in bytes.
+pub(crate) const LOG_LIMIT: u64 = 3_221_225_472;
+
+// What the named file of at most so many bytes says as a log. One record of it is kept at a time.
+fn audit_file<F: Folder>(
+    alloc: Global,
+    files: &mut F,
+    name: &str,
+    limit: u64,
+) -> Result<Report, ReadStop>
+    ensures reads { (content : Option (List ℕ)) × TellsFile (F.files files.old) name.now content × AuditedOf limit content result }
+    ensures end { OnOk result (IsAtEnd (F.left files.new)) }
+    ensures fault { IsErrOf result ReadStop.ReadFault → Rose (F.faults files.old) (F.faults files.new) }
+    ensures no_fault { (IsErrOf result ReadStop.ReadFault → ⊥) → F.faults files.new ≡ F.faults files.old }
+    ensures later { F.faults files.old ≤ F.faults files.new }
+    ensures kept { F.files files.new ≡ F.files files.old }
+    ensures telling { is_some (F.left files.new) ≡ is_some (F.left files.old) }
+    ensures asked { F.asked files.new ≡ F.asked files.old ++ name.now ∷ [] }
 {
-    let report = audit_bytes(alloc, bytes)?;
-    report_answer(alloc, report)
+    files.choose(name)?;
+    match audit_log(alloc, files, limit) {
+        Ok(report) => Ok(report),
+        Err(AuditStop::ReadFault) => Err(ReadStop::ReadFault),
+        Err(AuditStop::TooLong) => Err(ReadStop::TooLong),
+        Err(AuditStop::OutOfMemory) => Err(ReadStop::OutOfMemory),
+    }
 }
 
+/// What `audit` answers of the named file.
+pub(crate) fn audit<F: Folder>(
+    alloc: Global,
+    files: &mut F,
+    name: &str,
+) -> Result<Answer, AllocError>
+    ensures audits { IfOk result (AuditsFile (F.files files.old) name.now (F.faults files.old) (F.faults files.new)) }
+    ensures status { IfOk result (λ answer. (answer.status ≤ 1) ⊎ ((answer.status ≡ 3) ⊎ (answer.status ≡ 8))) }
+    ensures end { IfOk result (λ answer. answer.status ≡ 0 → IsAtEnd (F.left files.new)) }
+    ensures no_memory { OnErr result (F.faults files.new ≡ F.faults files.old) }
+    ensures later { F.faults files.old ≤ F.faults files.new }
+    ensures kept { F.files files.new ≡ F.files files.old }
+    ensures telling { is_some (F.left files.new) ≡ is_some (F.left files.old) }
+    ensures asked { F.asked files.new ≡ F.asked files.old ++ name.now ∷ [] }
+{
+    match audit_file(alloc, files, name, LOG_LIMIT) {
+        Ok(report) => report_answer(alloc, report),
+        Err(ReadStop::TooLong) => Ok(log_too_long()),
+        Err(ReadStop::ReadFault) => Ok(unread()),
+        Err(ReadStop::OutOfMemory) => Err(AllocError),
+    }
+}
+
+// A log's file is longer than its limit.
+fn log_too_long() -> Answer
+    ensures { result ≡ too_long log_limit }
+{
+    Answer::fixed(8, "too long 3221225472\n")
+}
+
+// How a report is printed.
 fn report_answer(alloc: Global, report: Report) -> Result<Answer, AllocError>
     ensures { IfOk result (λ answer. answer ≡ report_answer report) }
 {

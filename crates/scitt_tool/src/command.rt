@@ -3,6 +3,7 @@ ghost use Rattle.std.specs.Option.{option_map, option_copied};
 ghost use Rattle.scitt_tool.specs.Command as said;
 ghost use Rattle.scitt_tool.specs.Meaning.{meaning};
 
+use crate::audit::LOG_LIMIT;
 use crate::claims::claims_of;
 use crate::consistent::{root_named, size_named};
 use crate::generate::{Count, count_named};
@@ -67,10 +68,8 @@ pub(crate) enum Command<'a> {
     },
 }
 
-/// How long a file of a command may be, in bytes, and that of `audit`.
+/// How long a file of a command other than `audit` may be, in bytes.
 const LIMIT: u64 = 16_777_216;
-
-const LOG_LIMIT: u64 = 3_221_225_472;
 
 impl Command<'_> {
     /// How long each file that the command reads may be, in bytes.

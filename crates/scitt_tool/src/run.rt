@@ -2,6 +2,7 @@ ghost use Rattle.std.specs.Prelude.{◌≡◌, ◌≤◌, ◌⊎◌, ◌≢◌, 
 ghost use Rattle.std.specs.Io.KnownBytes.{IsAtEnd};
 ghost use Rattle.scitt_io.specs.Causes.{Rose};
 ghost use Rattle.scitt_tool.specs.Asking.{AsksFront};
+ghost use Rattle.scitt_tool.specs.Command as said;
 ghost use Rattle.scitt_tool.specs.Command.{command_of, files_of, files_read, uses_key, uses_random};
 ghost use Rattle.scitt_tool.specs.Meaning.{meaning, all_read};
 ghost use Rattle.scitt_tool.specs.ToolText.{first as first_read, second as second_read, Judged};
@@ -127,6 +128,9 @@ fn answer<F: Folder, D: Disk, S: Source>(
     let Some(command) = command_of(words) else {
         return Ok(words_refused());
     };
+    if let Command::Audit { file } = &command {
+        return audit(alloc, files, file);
+    }
     match read_files(alloc, files, &command) {
         Ok(read) => stopped(judge(alloc, &command, &read, key, random)),
         Err(ReadStop::TooLong) => Ok(too_long(&command)),
@@ -165,7 +169,7 @@ fn second(read: &[Vec<u8>]) -> &[u8]
     }
 }
 
-/// What a command comes to by the bytes of its files, the key file and random bytes.
+/// What a command other than `audit` comes to by the bytes of its files, the key file and random bytes.
 fn judge<D: Disk, S: Source>(
     alloc: Global,
     command: &Command<'_>,
@@ -173,6 +177,7 @@ fn judge<D: Disk, S: Source>(
     key: &mut D,
     random: &mut S,
 ) -> Result<Answer, ToolStop>
+    requires { (file : List ℕ) → meaning command.now ≢ said.Audit file }
     ensures judged { IfOk result (JudgedOver (IsTrue D.tells) (D.held key.old) (D.held key.new) (S.left random.old) (meaning command.now) (all_read read.now)) }
     ensures status { IfOk result (λ answer. (answer.status ≤ 1) ⊎ (answer.status ≡ 7)) }
     ensures random_counts { CountsRandom (S.faults random.old) (S.faults random.new) result }
@@ -188,7 +193,7 @@ fn judge<D: Disk, S: Source>(
         Command::Root { .. } => Ok(root(alloc, first(read))?),
         Command::Show { .. } => Ok(show(alloc, first(read))?),
         Command::Policy { .. } => Ok(policy(alloc, first(read))?),
-        Command::Audit { .. } => Ok(audit(alloc, first(read))?),
+        Command::Audit { .. } => unreachable!(),
         Command::Replay { .. } => Ok(replay(alloc, first(read))?),
         Command::Generate { count } => Ok(generate(alloc, count)?),
         Command::Attach { .. } => Ok(attach(alloc, first(read), second(read))?),

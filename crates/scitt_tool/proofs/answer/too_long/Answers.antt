@@ -6,11 +6,8 @@ use Rattle.scitt_tool.specs.declared.command.Command.TheVariants.{Root, Show, Po
 use Rattle.scitt_tool.specs.Answer.{Answer, line, too_long}
 use Rattle.scitt_tool.specs.Command.{limit_of}
 use Rattle.scitt_tool.specs.Meaning.{meaning}
+use Rattle.scitt_tool.proofs.Auditing.{long_log}
 use Rattle.scitt_tool.proofs.answer.too_long.Goals as goal
-
-long_log : line (codes "too long " ++ decimal 3221225472) ≡ codes "too long 3221225472\n"
-unfolding digits
-long_log = refl
 
 long_file : line (codes "too long " ++ decimal 16777216) ≡ codes "too long 16777216\n"
 unfolding digits

@@ -1,8 +1,10 @@
-use Rattle.std.proofs.Common.{ℕ, Err, List, refl, sym, ap, ◌∙◌, subst}
+use Rattle.std.proofs.Common.{ℕ, Some, Err, List, refl, sym, ap, ◌∙◌, subst}
 use Rattle.std.specs.Global.{Vec}
+use Rattle.scitt_tool.specs.declared.command.Command.{Command as Read}
 use Rattle.scitt_tool.specs.Meaning.{meaning, all_read}
 use Rattle.scitt_tool.specs.Command.{limit_of}
 use Rattle.scitt_tool.specs.Reads.{ReadAll}
+use Rattle.scitt_tool.proofs.Auditing.{due_audited}
 use Rattle.scitt_tool.proofs.Dues.{due_refused, due_too_long, due_judged}
 use Rattle.scitt_tool.proofs.run.answer.Goals as goal
 
@@ -22,3 +24,7 @@ pub returns-in-Err-TooLong-clause-due : goal.returns-in-Err-TooLong-clause-due
 returns-in-Err-TooLong-clause-due g c =
     let stops = c.in-Err-TooLong.ensures.stops (ap Err c.in-Err-TooLong.field-0-is) in
     due_too_long _ _ c.args.words.now (meaning c.in-Some.command) stops.0 _ _ _ (sym c.in-Some.ensures) stops.1 (c.in-Err-TooLong.ensures.some (ap Err c.in-Err-TooLong.field-0-is)) stops.2 refl (c.in-Err-TooLong.ensures.no_fault (λ e. cc)) refl refl c.too_long.ensures
+
+pub returns-in-Audit-clause-due : goal.returns-in-Audit-clause-due
+returns-in-Audit-clause-due g c =
+    due_audited _ _ c.args.words.now c.in-Audit.file.now _ _ (sym c.in-Some.ensures ∙ ap (λ (r : Read). Some (meaning r)) c.in-Audit.is) refl refl refl c.audit.result c.audit.ensures.audits

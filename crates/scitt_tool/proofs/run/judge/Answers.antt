@@ -1,4 +1,5 @@
-use Rattle.std.proofs.Common.{refl}
+use Rattle.std.proofs.Common.{refl, ap}
+use Rattle.scitt_tool.specs.Meaning.{meaning}
 use Rattle.scitt_tool.proofs.Dues.{plain_over, over_judged}
 use Rattle.scitt_tool.proofs.run.judge.Goals as goal
 
@@ -14,10 +15,6 @@ pub returns-in_ok-policy-in-Policy-clause-judged :
     goal.returns-in_ok-policy-in-Policy-clause-judged
 returns-in_ok-policy-in-Policy-clause-judged g c =
     rw c.in-Policy.is (plain_over _ _ _ _ _ _ (λ key random. (rw c.first-in-Policy.ensures at c.in_ok-policy-in-Policy.ensures, refl)))
-
-pub returns-in_ok-audit-in-Audit-clause-judged : goal.returns-in_ok-audit-in-Audit-clause-judged
-returns-in_ok-audit-in-Audit-clause-judged g c =
-    rw c.in-Audit.is (plain_over _ _ _ _ _ _ (λ key random. (rw c.first-in-Audit.ensures at c.in_ok-audit-in-Audit.ensures, refl)))
 
 pub returns-in_ok-replay-in-Replay-clause-judged : goal.returns-in_ok-replay-in-Replay-clause-judged
 returns-in_ok-replay-in-Replay-clause-judged g c =
@@ -45,3 +42,6 @@ returns-in_ok-consistent-in-Consistent-clause-judged g c =
 pub returns-in-Sign-clause-judged : goal.returns-in-Sign-clause-judged
 returns-in-Sign-clause-judged g c =
     rw c.in-Sign.is (over_judged _ _ _ _ _ _ _ _ (rw c.first-in-Sign.ensures at c.sign.ensures.over) (λ random outcome signed. signed))
+
+pub unreachable-requires : goal.unreachable-requires
+unreachable-requires g c = c.requires c.in-Audit.file.now (ap meaning c.in-Audit.is)
