@@ -7,6 +7,8 @@ use Rattle.policy_rules.specs.declared.conditions.Cond.{Cond}
 use Rattle.policy_rules.specs.declared.documents.Holder.{Holder}
 use Rattle.policy_rules.specs.declared.documents.Rule.{Rule}
 use Rattle.policy_rules.specs.Spelling.{cond_item, holder_item, rule_item}
+use Rattle.relying_party.specs.declared.trust.Issuer.{Issuer}
+use Rattle.relying_party.specs.Parties.{ServiceKey}
 use Rattle.toml.specs.Data.{Data, table, Items, no_items, push_item, Members}
 use Rattle.toml.specs.View.{view, items_view}
 use Rattle.toml.specs.declared.value.Value.{Value}
@@ -15,9 +17,11 @@ use Rattle.scitt_forms.specs.declared.refusal.Word.TheVariants as w
 use Rattle.scitt_forms.specs.Fields.{placed}
 use Rattle.scitt_forms.specs.Holders.{holder_at}
 use Rattle.scitt_forms.specs.Policies.{rule_at}
+use Rattle.scitt_forms.specs.Trusts.{service_at}
 use Rattle.scitt_forms.specs.Conditions.{cond_said}
 use Rattle.shown_forms.specs.Conditions.{cond_fits, CondValue, PartValues}
 use Rattle.shown_forms.specs.Policies.{HolderTable, HolderTables, rule_fits, RuleTable, RuleTables}
+use Rattle.shown_forms.specs.Trusts.{holder_of, service_item, ServiceTable, ServiceTables}
 use Rattle.shown_forms.proofs.Each.{each_push, depth_push}
 
 all_both : (a b c : Bool) → (a && b) ≡ true → (b ≡ true → c ≡ true) → (a && c) ≡ true
@@ -75,3 +79,24 @@ pub rules_more : (rs : List Rule) (i : ℕ) (r : Rule) (vs : List Value) (v : Va
     → RuleTables (take i rs) (items_view vs) → RuleTable (get_or rs i r) ms → RuleTables (take (i + 1) rs) (items_view (vs ++ v ∷ []))
 rules_more rs i r vs v ms within is all one =
     rw (take_more rs i r within, items_view-push vs v, is) (rules_push (take i rs) (items_view vs) (get_or rs i r) ms all one)
+
+pub issuers_more : (xs : List Issuer) (i : ℕ) (x : Issuer) (vs : List Value) (v : Value) (ms : Members) → i < length xs → view v ≡ table ms
+    → HolderTables (map holder_of (take i xs)) (items_view vs) → HolderTable (holder_of (get_or xs i x)) ms
+    → HolderTables (map holder_of (take (i + 1) xs)) (items_view (vs ++ v ∷ []))
+issuers_more xs i x vs v ms within is all one =
+    rw (take_more xs i x within, map_push holder_of (take i xs) (get_or xs i x), items_view-push vs v, is)
+    (holders_push (map holder_of (take i xs)) (items_view vs) (holder_of (get_or xs i x)) ms all one)
+
+services_push : (ss : List ServiceKey) (ds : Items) (s : ServiceKey) (ms : Members) → ServiceTables ss ds → ServiceTable s ms
+    → ServiceTables (ss ++ s ∷ []) (push_item ds (table ms))
+services_push ss ds s ms v x = record {
+  say =
+      each_push service_at [] ds (table ms) (map service_item ss) (service_item s) v.say (x.says (placed w.Service (length (map service_item ss))))
+      ∙ ap Ok (sym (map_push service_item ss s));
+  shallow = depth_push ds (table ms) 1 v.shallow (omega (arith, x.shallow));
+}
+
+pub services_more : (ss : List ServiceKey) (i : ℕ) (s : ServiceKey) (vs : List Value) (v : Value) (ms : Members) → i < length ss → view v ≡ table ms
+    → ServiceTables (take i ss) (items_view vs) → ServiceTable (get_or ss i s) ms → ServiceTables (take (i + 1) ss) (items_view (vs ++ v ∷ []))
+services_more ss i s vs v ms within is all one =
+    rw (take_more ss i s within, items_view-push vs v, is) (services_push (take i ss) (items_view vs) (get_or ss i s) ms all one)

@@ -4,3 +4,4 @@ pub mod KindLemmas
 pub mod Growing
 pub mod Found
 pub mod ReadBack
+pub mod TrustSpelled

@@ -1,4 +1,5 @@
 pub mod Tables
 pub mod Conditions
 pub mod Policies
+pub mod Trusts
 pub mod Showing

@@ -6,5 +6,9 @@ mod holders;
 mod policy;
 mod showing;
 mod tables;
+mod trust;
 
-pub use showing::{ShowStop, show_policy, shown_policies_read_back};
+pub use showing::{
+    ShowStop, show_document, show_policy, show_trust, shown_policies_read_back,
+    shown_trust_files_read_back,
+};

@@ -1,17 +1,22 @@
 // The form that a document's bytes are printed as.
 
-ghost use Rattle.std.specs.Prelude.{◌≡◌, ◌≤◌, Some, IfOk};
+ghost use Rattle.std.specs.Prelude.{◌≡◌, ◌≤◌, Some, Ok, IfOk};
 ghost use Rattle.std.specs.String.{string_bytes};
 ghost use Rattle.toml.specs.Data.{members_depth};
 ghost use Rattle.toml.specs.Parse.{parse_document};
 ghost use Rattle.toml.specs.View.{table_view};
-ghost use Rattle.shown_forms.specs.Showing.{ReadsBack, ShownOf, ShowsPolicy};
+ghost use Rattle.scitt_forms.specs.Trusts.{trust_item_said};
+ghost use Rattle.scitt_forms.specs.Writing.{item_said};
+ghost use Rattle.shown_forms.specs.Showing.{ReadsBack, ReadsTrustBack, ShownOf, ShowsDocument, ShowsPolicy, ShowsTrust};
+ghost use Rattle.shown_forms.specs.Trusts.{trust_item};
 
 use crate::policy::form_of;
+use crate::trust::form_of as trust_form;
 use cbor_core::strict_spelling_is_unique;
 use policy_rules::{
     Policy, PolicyStop, decode, documents_are_spelled_once, documents_have_one_answer,
 };
+use relying_party::{Trust, TrustStop, trust_files_have_one_answer};
 use std::alloc::{AllocError, Global};
 use toml::Table;
 
@@ -66,10 +71,55 @@ pub fn show_policy(alloc: Global, bytes: &[u8]) -> Result<String, ShowStop>
     }
 }
 
+fn trust_text(alloc: Global, trust: &Trust) -> Result<String, AllocError>
+    ensures { IfOk result (λ text. item_said trust_item_said (string_bytes text) ≡ Ok (trust_item trust.now)) }
+{
+    let table = trust_form(alloc, trust)?;
+    text_of(alloc, &table)
+}
+
+/// The form, a text in TOML 1.0, of the trust file that bytes strictly spell; what is written of this text is these bytes.
+///
+/// `NoDocument` comes exactly where they are no trust file, and `NoForm` never.
+pub fn show_trust(alloc: Global, bytes: &[u8]) -> Result<String, ShowStop>
+    ensures { ShowsTrust bytes.now result }
+{
+    trust_files_have_one_answer();
+    match Trust::decode(alloc, bytes) {
+        Ok(trust) => match trust_text(alloc, &trust) {
+            Ok(text) => Ok(text),
+            Err(_) => Err(ShowStop::OutOfMemory),
+        },
+        Err(TrustStop::Cbor(_fault)) => Err(ShowStop::NoDocument),
+        Err(TrustStop::BadTrust) => Err(ShowStop::NoDocument),
+        Err(TrustStop::OutOfMemory) => Err(ShowStop::OutOfMemory),
+    }
+}
+
+/// The form of the policy, or else of the trust file, that bytes strictly spell. No bytes are both: a policy has five parts, and a trust
+/// file three.
+pub fn show_document(alloc: Global, bytes: &[u8]) -> Result<String, ShowStop>
+    ensures { ShowsDocument bytes.now result }
+{
+    match show_policy(alloc, bytes) {
+        Ok(text) => Ok(text),
+        Err(ShowStop::NoDocument) => show_trust(alloc, bytes),
+        Err(ShowStop::NoForm) => Err(ShowStop::NoForm),
+        Err(ShowStop::OutOfMemory) => Err(ShowStop::OutOfMemory),
+    }
+}
+
 /// A law: what is written of the text that a policy's bytes are printed as is these bytes.
 pub fn shown_policies_read_back()
     ensures { ReadsBack }
 {
     documents_are_spelled_once();
+    strict_spelling_is_unique();
+}
+
+/// A law: what is written of the text that a trust file's bytes are printed as is these bytes.
+pub fn shown_trust_files_read_back()
+    ensures { ReadsTrustBack }
+{
     strict_spelling_is_unique();
 }

@@ -26,6 +26,6 @@ IsAnswer (Err OutOfMemory) answer = ⊥
 -- the answer to what a document is printed as
 abbrev pub IsShownAs : Result (String Global) ShowStop → Answer → Type 0
 IsShownAs (Ok text) answer = answer ≡ done (string_bytes text)
-IsShownAs (Err NoDocument) answer = answer ≡ refused (codes "no policy")
+IsShownAs (Err NoDocument) answer = answer ≡ refused (codes "no document")
 IsShownAs (Err NoForm) answer = answer ≡ refused (codes "no form")
 IsShownAs (Err NoMemory) answer = ⊥

@@ -10,7 +10,7 @@ use Rattle.scitt_forms.specs.Refusals.{refusal}
 use Rattle.scitt_forms.specs.Fields.{form}
 use Rattle.scitt_forms.specs.Writing.{WritesPolicy}
 use Rattle.shown_forms.specs.declared.showing.ShowStop.{ShowStop}
-use Rattle.shown_forms.specs.Showing.{ShowsPolicy}
+use Rattle.shown_forms.specs.Showing.{ShowsDocument}
 use Rattle.write_params.specs.WritesParams.{WritesParams}
 use Rattle.write_trust.specs.WritesTrust.{WritesTrust}
 use Rattle.write_tool.specs.declared.command.Kind.{Kind}
@@ -39,7 +39,7 @@ pub record IsWritten (kind : Kind) (bytes : List ℕ) (answer : Answer) : Type 0
 -- the answer to a document's bytes
 pub record IsShown (bytes : List ℕ) (answer : Answer) : Type 0 where
   pub result : Result (String Global) ShowStop
-  pub shows : ShowsPolicy bytes result
+  pub shows : ShowsDocument bytes result
   pub is : IsShownAs result answer
 
 -- the answer to a file's bytes

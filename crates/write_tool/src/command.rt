@@ -23,7 +23,7 @@ pub enum Kind {
 pub enum Task {
     /// The strict bytes of a form's document.
     Write(Kind),
-    /// `show FILE`: the form of a policy's bytes.
+    /// `show FILE`: the form of a policy's or a trust file's bytes.
     Show,
 }
 

@@ -47,7 +47,7 @@ fn answer<F: Folder>(alloc: Global, words: &Words, files: &mut F) -> Result<Answ
 /// | Status | Where | Text |
 /// |---|---|---|
 /// | 0 | the form was written, or the document shown, and the file read to its end | the strict bytes of the form's document, or the document's form |
-/// | 1 | refused by a written rule | one line, `refused` with the table, the key and the reason; to `show`, `refused no policy` or `refused no form` |
+/// | 1 | refused by a written rule | one line, `refused` with the table, the key and the reason; to `show`, `refused no document` or `refused no form` |
 /// | 2 | the words name no command | `words refused` |
 /// | 3 | the folder refused a call | `read fault` |
 /// | 4 | the sink refused a write | a part of the text |

@@ -10,7 +10,7 @@ use crate::command::{Kind, Task};
 use cbor_core::Bytes;
 use command_line::Answer;
 use scitt_forms::{FormStop, Place, Refusal, Why, Word, write_policy};
-use shown_forms::{ShowStop, show_policy};
+use shown_forms::{ShowStop, show_document};
 use std::alloc::{AllocError, Global};
 use write_params::write_params;
 use write_trust::write_trust;
@@ -72,7 +72,7 @@ fn shown(shown: Result<String, ShowStop>) -> Result<Answer, AllocError>
 {
     match shown {
         Ok(text) => Ok(Answer::made(0, text)),
-        Err(ShowStop::NoDocument) => Ok(Answer::fixed(1, "refused no policy\n")),
+        Err(ShowStop::NoDocument) => Ok(Answer::fixed(1, "refused no document\n")),
         Err(ShowStop::NoForm) => Ok(Answer::fixed(1, "refused no form\n")),
         Err(ShowStop::OutOfMemory) => Err(AllocError),
     }
@@ -85,6 +85,6 @@ pub(crate) fn answer_to(alloc: Global, task: Task, bytes: &[u8]) -> Result<Answe
 {
     match task {
         Task::Write(kind) => answer_of(alloc, written_of(alloc, kind, bytes)),
-        Task::Show => shown(show_policy(alloc, bytes)),
+        Task::Show => shown(show_document(alloc, bytes)),
     }
 }
